@@ -194,3 +194,20 @@ refused_ends bytes code is = elim (cases_lt (length bytes) 6) [
   | inl less ↦ absurd (few_refused bytes code less is)
   | inr more ↦ by_head bytes more true ∙ refused_content (head_kind bytes) (head_key bytes) (head_value bytes) (drop 6 bytes) (code_of_head (head_kind bytes) (head_key bytes) (head_value bytes)) code (sym (by_head bytes more false) ∙ is)
 ]
+
+-- a frame that is refused stays refused, whatever follows
+refused_any : (kind key value : ℕ) (content other : List ℕ) (o : Option ℕ) (code : ℕ) → front_of_content false kind key value content o ≡ Ends (Refused code) → front_of_content false kind key value other o ≡ Ends (Refused code)
+refused_any kind key value content other (Some said) code h = h
+refused_any kind key value content other None code h = absurd (refused_test (nat_lt (length content) (key + value)) (request_of kind (take key content) (take value (drop key content))) (drop (key + value) content) code h)
+
+pub refused_more : (bytes more : List ℕ) (code : ℕ) → front false bytes ≡ Ends (Refused code) → front false (bytes ++ more) ≡ Ends (Refused code)
+refused_more (a ∷ b ∷ c ∷ d ∷ e ∷ f ∷ rest) more code is =
+    let bytes : List ℕ = a ∷ b ∷ c ∷ d ∷ e ∷ f ∷ rest in
+    let long : 6 ≤ length (bytes ++ more) = omega arith in
+    by_head (bytes ++ more) long false ∙ refused_any a b (head_value bytes) rest (rest ++ more) (code_of_head a b (head_value bytes)) code (sym (by_head bytes (omega arith) false) ∙ is)
+refused_more [] more code is = absurd (few_refused [] code (omega arith) is)
+refused_more (a ∷ []) more code is = absurd (few_refused (a ∷ []) code (omega arith) is)
+refused_more (a ∷ b ∷ []) more code is = absurd (few_refused (a ∷ b ∷ []) code (omega arith) is)
+refused_more (a ∷ b ∷ c ∷ []) more code is = absurd (few_refused (a ∷ b ∷ c ∷ []) code (omega arith) is)
+refused_more (a ∷ b ∷ c ∷ d ∷ []) more code is = absurd (few_refused (a ∷ b ∷ c ∷ d ∷ []) code (omega arith) is)
+refused_more (a ∷ b ∷ c ∷ d ∷ e ∷ []) more code is = absurd (few_refused (a ∷ b ∷ c ∷ d ∷ e ∷ []) code (omega arith) is)
