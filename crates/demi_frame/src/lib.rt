@@ -14,4 +14,4 @@ mod reply;
 
 pub use decoder::{Decoder, Step};
 pub use key::Key;
-pub use reply::reply_head;
+pub use reply::{BYE, FOUND, FULL, MISSING, REFUSED, STORED, reply_head};

@@ -211,3 +211,13 @@ refused_more (a ∷ b ∷ []) more code is = absurd (few_refused (a ∷ b ∷ []
 refused_more (a ∷ b ∷ c ∷ []) more code is = absurd (few_refused (a ∷ b ∷ c ∷ []) code (omega arith) is)
 refused_more (a ∷ b ∷ c ∷ d ∷ []) more code is = absurd (few_refused (a ∷ b ∷ c ∷ d ∷ []) code (omega arith) is)
 refused_more (a ∷ b ∷ c ∷ d ∷ e ∷ []) more code is = absurd (few_refused (a ∷ b ∷ c ∷ d ∷ e ∷ []) code (omega arith) is)
+
+-- what follows a request is shorter
+pub front_shorter : (ended : Bool) (bytes : List ℕ) (request : Request) (rest : List ℕ) → front ended bytes ≡ Whole request rest → length rest < length bytes
+front_shorter ended bytes request rest is = elim (cases_lt (length bytes) 6) [
+  | inl less ↦ absurd (few_ends ended bytes request rest less is)
+  | inr more ↦
+    let p = of_content ended (head_kind bytes) (head_key bytes) (head_value bytes) (drop 6 bytes) (code_of_head (head_kind bytes) (head_key bytes) (head_value bytes)) request rest (sym (by_head bytes more ended) ∙ is) in
+    let cut : length (drop (head_key bytes + head_value bytes) (drop 6 bytes)) ≡ length rest = ap length p.3 in
+    omega (arith, length-drop (head_key bytes + head_value bytes) (drop 6 bytes), length-drop 6 bytes)
+]

@@ -1,11 +1,11 @@
 -- A text has one list of requests and one ending, and `parse` finds them.
 use Rattle.std.proofs.Common.{◌≡◌, ℕ, zero, suc, ◌+◌, ◌-◌, ◌≤◌, ◌<◌, Bool, false, true, List, [], ◌∷◌, ◌++◌, length, refl, arith, ◌∙◌, ap, sym, length-append, flat_map, append_assoc}
 use Rattle.std.specs.Prelude.{All}
-use Rattle.std.proofs.Common.{subst}
+use Rattle.std.proofs.Common.{subst, map, add-one}
 use Rattle.std.proofs.lemmas.List.{append-nil, get_or-append-add}
 use Rattle.demi_spec.specs.Request.{IsBytes, GoesOn, AllGoOn, Request, Put, Get, End, IsRequest, spelling}
-use Rattle.demi_spec.specs.Input.{Front, Takes, Ends, EndFrame, front, Whole, Ending, Parses, Parsed, parse, parse_within, after_front}
-use Rattle.demi_spec.proofs.Fronts.{front_again, front_takes}
+use Rattle.demi_spec.specs.Input.{Front, Takes, Asked, Request_of, asked, asked_of, Ends, EndFrame, front, Whole, Ending, Parses, Parsed, parse, parse_within, after_front}
+use Rattle.demi_spec.proofs.Fronts.{front_again, front_takes, front_shorter}
 
 pub length-spelling : (request : Request) → 6 ≤ length (spelling request)
 length-spelling (Put k v) = omega (arith, length-append {A = ℕ})
@@ -88,3 +88,59 @@ pub apart : (q r : Request) (more : List ℕ) → IsRequest q → IsRequest r �
 apart q r more fits other is =
     let e : Whole q [] ≡ Whole r more = sym (front_again false q [] fits) ∙ ap (front false) (append-nil (spelling q) ∙ is) ∙ front_again false r more other in
     (cc, cc)
+
+-- more fuel finds the same
+rest_shorter : (ended : Bool) (bytes : List ℕ) (q : Request) (rest : List ℕ) → front ended bytes ≡ Whole q rest → length rest < length bytes
+rest_shorter ended bytes q rest is = front_shorter ended bytes q rest is
+
+same_found : (n m : ℕ) (ended : Bool) (bytes : List ℕ) (f : Front) → front ended bytes ≡ f → length bytes < suc n → length bytes < suc m
+    → ((rest : List ℕ) → length rest < n → length rest < m → parse_within n ended rest ≡ parse_within m ended rest)
+    → after_front f (λ rest. parse_within n ended rest) ≡ after_front f (λ rest. parse_within m ended rest)
+same_found n m ended bytes (Ends how) is l1 l2 on = refl
+same_found n m ended bytes (Whole End rest) is l1 l2 on = refl
+same_found n m ended bytes (Whole (Put k v) rest) is l1 l2 on =
+    let less : length rest < length bytes = rest_shorter ended bytes (Put k v) rest is in
+    rw (on rest (omega arith) (omega arith)) refl
+same_found n m ended bytes (Whole (Get k) rest) is l1 l2 on =
+    let less : length rest < length bytes = rest_shorter ended bytes (Get k) rest is in
+    rw (on rest (omega arith) (omega arith)) refl
+
+same_within : (n m : ℕ) (ended : Bool) (bytes : List ℕ) → length bytes < n → length bytes < m → parse_within n ended bytes ≡ parse_within m ended bytes
+unfolding parse_within
+same_within zero m ended bytes l1 l2 = absurd (omega arith)
+same_within (suc n) zero ended bytes l1 l2 = absurd (omega arith)
+same_within (suc n) (suc m) ended bytes l1 l2 = same_found n m ended bytes (front ended bytes) refl l1 l2 (λ rest h1 h2. same_within n m ended rest h1 h2)
+
+-- a text that begins with a request, by one turn
+one_turn : (ended : Bool) (text : List ℕ) (q : Request) (rest : List ℕ) → front ended text ≡ Whole q rest → parse text ended ≡ after_front (Whole q rest) (λ more. parse_within (length text) ended more)
+unfolding parse parse_within
+one_turn ended text q rest is =
+    ap (λ n. parse_within n ended text) (add-one (length text))
+    ∙ ap (λ (f : Front). after_front f (λ more. parse_within (length text) ended more)) is
+
+parsed_rest : (ended : Bool) (text rest : List ℕ) → length rest < length text → parse_within (length text) ended rest ≡ parse rest ended
+unfolding parse
+parsed_rest ended text rest less = same_within (length text) (length rest + 1) ended rest less (omega arith)
+
+-- what is parsed behind one request, and behind requests
+pub parse_on : (q : Request) (ended : Bool) (rest : List ℕ) → GoesOn q → parse (spelling q ++ rest) ended ≡ record { requests = q ∷ (parse rest ended).requests; how = (parse rest ended).how }
+parse_on (Put k v) ended rest on =
+    let is = front_again ended (Put k v) rest on in
+    one_turn ended (spelling (Put k v) ++ rest) (Put k v) rest is
+    ∙ ap (λ (p : Parsed). record { requests = Put k v ∷ p.requests; how = p.how }) (parsed_rest ended (spelling (Put k v) ++ rest) rest (rest_shorter ended _ (Put k v) rest is))
+parse_on (Get k) ended rest on =
+    let is = front_again ended (Get k) rest on in
+    one_turn ended (spelling (Get k) ++ rest) (Get k) rest is
+    ∙ ap (λ (p : Parsed). record { requests = Get k ∷ p.requests; how = p.how }) (parsed_rest ended (spelling (Get k) ++ rest) rest (rest_shorter ended _ (Get k) rest is))
+parse_on End ended rest on = absurd on
+
+pub asked_on : (rs : List Request) (ended : Bool) (rest : List ℕ) → AllGoOn rs → asked (flat_map spelling rs ++ rest) ended ≡ map Request_of rs ++ asked rest ended
+asked_on [] ended rest all = refl
+asked_on (q ∷ rs) ended rest all =
+    ap (λ (t : List ℕ). asked t ended) (append_assoc (spelling q) (flat_map spelling rs) rest)
+    ∙ ap (λ (p : Parsed). asked_of p.requests p.how) (parse_on q ended (flat_map spelling rs ++ rest) all.0)
+    ∙ ap (λ (l : List Asked). Request_of q ∷ l) (asked_on rs ended rest all.1)
+
+-- the asks of a text, by the relation
+pub asked_is : (requests : List Request) (how : Ending) (ended : Bool) (bytes : List ℕ) → Parses requests how ended bytes → asked bytes ended ≡ asked_of requests how
+asked_is requests how ended bytes p = ap (λ (x : Parsed). asked_of x.requests x.how) (parsed requests how ended bytes p)

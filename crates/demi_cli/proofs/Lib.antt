@@ -1,0 +1,6 @@
+pub mod Writes
+pub mod Said
+pub mod SoFars
+pub mod Wholes
+pub mod Stops
+pub mod Turns

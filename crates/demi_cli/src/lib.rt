@@ -1,0 +1,8 @@
+//! The top call of the store.
+#![tactic(auto)]
+
+mod answering;
+mod replying;
+mod serving;
+
+pub use serving::{Fault, serve};
