@@ -150,7 +150,10 @@ impl Disk for MemDisk {
         ensures space { disk_room self.new ≡ disk_room self.old }
     {
         let most = self.room.min(MAX_HELD_BYTES);
-        if self.writes.next_fails() || self.bytes.len() > most || piece.len() > most - self.bytes.len() {
+        if self.writes.next_fails()
+            || self.bytes.len() > most
+            || piece.len() > most - self.bytes.len()
+        {
             self.faults = self.faults.saturating_add(1);
             return Err(Failed);
         }

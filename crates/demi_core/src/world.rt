@@ -1,4 +1,4 @@
-use crate::{Disk, Failed, Halt, Site, Sink, Source};
+use crate::{Disk, Failed, Halt, Sink, Site, Source};
 use std::alloc::Global;
 
 /// What a program meets: links, logs, a place to print.
