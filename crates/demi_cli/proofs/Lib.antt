@@ -4,3 +4,5 @@ pub mod SoFars
 pub mod Wholes
 pub mod Stops
 pub mod Turns
+pub mod Ends
+pub mod Clauses

@@ -2,7 +2,10 @@
 #![tactic(auto)]
 
 mod answering;
+mod outcome;
 mod replying;
+mod reporting;
+mod running;
 mod serving;
 
-pub use serving::{Fault, serve};
+pub use running::run;

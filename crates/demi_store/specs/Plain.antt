@@ -1,5 +1,6 @@
 -- What a store holds, and what a put does.
-use Rattle.std.specs.Prelude.{◌≡◌, ℕ, List, ◌++◌, take}
+use Rattle.std.specs.Prelude.{◌≡◌, ◌⊎◌, ℕ, List, ◌++◌, take}
+use Rattle.demi_spec.specs.LogText.{header}
 use Rattle.demi_spec.specs.Request.{Put}
 use Rattle.demi_spec.specs.Input.{Request_of}
 use Rattle.demi_spec.specs.Reply as reply
@@ -12,6 +13,10 @@ use Rattle.demi_store.specs.declared.plain.PlainPut.TheVariants as put
 pub record Plain (D : Type 0) : Type 0 where
   pub disk : D
   pub records : List Record
+
+-- A disk that failed before it had its header: it is as it was, or it was empty and has a front of the header.
+abbrev pub HeadedInPart : ℕ → Contents → Contents → Type 0
+HeadedInPart held old new = (new ≡ old) ⊎ ((held ≡ 0) × ((k : ℕ) × (new ≡ grown old (take k header))))
 
 -- the most records that a store takes
 abbrev pub limit : ℕ

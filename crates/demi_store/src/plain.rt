@@ -13,7 +13,7 @@ use std::marker::Model;
 /// Why a disk gives no store. It is handed back.
 #[derive(Clone, Copy, Debug, PartialEq, Eq)]
 pub enum PlainRefusal {
-    /// The disk failed. It may hold a front of the header.
+    /// The disk failed. It is as it was, or it was empty and holds a front of the header.
     Failed,
     /// The disk holds bytes already, and is as it was.
     NotEmpty,
@@ -97,7 +97,7 @@ impl<D: Disk> PlainStore<D> {
     ghost use Rattle.demi_spec.specs.LogText.{header};
     ghost use Rattle.demi_spec.specs.Store as store;
     ghost use Rattle.demi_store.specs.Contents.{contents, grown};
-    ghost use Rattle.demi_store.specs.Plain.{PutIs};
+    ghost use Rattle.demi_store.specs.Plain.{HeadedInPart, PutIs};
 
     /// A store without records on a disk that holds nothing, which gets the header of a log in one append. Takes no
     /// memory today; the answer is there for those that will.
@@ -106,7 +106,7 @@ impl<D: Disk> PlainStore<D> {
         ensures headed { IfOk result (λ s. contents (D.bytes s.disk) (D.held s.disk) ≡ grown (contents (D.bytes disk) (D.held disk)) header) }
         ensures not_empty { IfErr result (λ e. e.1 ≡ PlainRefusal.NotEmpty → (D.held disk ≢ 0) × (contents (D.bytes e.0) (D.held e.0) ≡ contents (D.bytes disk) (D.held disk))) }
         ensures failed { IfErr result (λ e. e.1 ≡ PlainRefusal.Failed → Rose (D.faults disk) (D.faults e.0)) }
-        ensures front { IfErr result (λ e. e.1 ≡ PlainRefusal.Failed → (k : ℕ) × (contents (D.bytes e.0) (D.held e.0) ≡ grown (contents (D.bytes disk) (D.held disk)) (take k header))) }
+        ensures front { IfErr result (λ e. e.1 ≡ PlainRefusal.Failed → HeadedInPart (D.held disk) (contents (D.bytes disk) (D.held disk)) (contents (D.bytes e.0) (D.held e.0))) }
         ensures memory { IfErr result (λ e. e.1 ≢ PlainRefusal.NoMemory) }
         ensures later { MatchResult result (λ s. D.faults disk ≤ D.faults s.disk) (λ e. D.faults disk ≤ D.faults e.0) }
     {
