@@ -7,5 +7,7 @@ mod replying;
 mod reporting;
 mod running;
 mod serving;
+#[cfg(test)]
+mod tests;
 
 pub use running::run;
