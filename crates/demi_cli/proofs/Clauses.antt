@@ -268,10 +268,3 @@ pub not_usage : (old mid : WorldState) (f0 f1 : ℕ) (name : List ℕ) (o : Outc
 not_usage old mid f0 f1 name o n r status e =
     let at : o ≡ outcome.Usage = (is_at n 1 o status e).1 in
     not_usage_at r.gave f0 f1 (subst (λ (x : Outcome). Ends x r.gave f0 f1) at r.ends)
-
--- words that are no command
-pub no_stop : (n : ℕ) (old new : WorldState) (name : List ℕ) → n ≡ 1 → (f : Fault) → n ≡ status_of_fault f → Unlinked f old new name ⊎ StoppedRun f old new name
-no_stop n old new name one fault.Read e = absurd (let z : 1 ≡ 2 = sym one ∙ e in cc)
-no_stop n old new name one fault.Write e = absurd (let z : 1 ≡ 3 = sym one ∙ e in cc)
-no_stop n old new name one fault.Log e = absurd (let z : 1 ≡ 4 = sym one ∙ e in cc)
-no_stop n old new name one fault.NoMemory e = absurd (let z : 1 ≡ 5 = sym one ∙ e in cc)

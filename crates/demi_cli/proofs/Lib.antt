@@ -6,3 +6,4 @@ pub mod Stops
 pub mod Turns
 pub mod Ends
 pub mod Clauses
+pub mod Fronts

@@ -1,11 +1,12 @@
 -- What a run of `pipe LOG` did, by what the world gave and what it keeps.
-use Rattle.std.specs.Prelude.{◌≡◌, ◌≢◌, ℕ, ◌+◌, ◌⊎◌, List, [], ◌∷◌, ◌++◌, length, take, Option, Some, None, Result, Ok, Err}
+use Rattle.std.specs.Prelude.{Bool, ◌≡◌, ◌≢◌, ℕ, ◌+◌, ◌⊎◌, List, [], ◌∷◌, ◌++◌, length, take, Option, Some, None, Result, Ok, Err}
 use Rattle.std.specs.Io.KnownBytes.{append_known}
 use Rattle.demi_core.specs.Outside.{Rose}
 use Rattle.demi_core.specs.World.{WorldState, Link, Log, after_links, after_keep_link, after_log, after_keep_log, LogRefused}
 use Rattle.demi_spec.specs.LogText.{header}
 use Rattle.demi_store.specs.Plain.{HeadedInPart}
-use Rattle.demi_cli.specs.Serving.{Whole, Stopped, contents_of}
+use Rattle.demi_spec.specs.Input.{asked}
+use Rattle.demi_cli.specs.Serving.{Whole, Stopped, Took, Says, said_to, contents_of}
 use Rattle.demi_cli.specs.declared.serving.Fault.{Fault}
 use Rattle.demi_cli.specs.declared.serving.Fault.TheVariants as fault
 use Rattle.demi_cli.specs.declared.outcome.Outcome.{Outcome}
@@ -152,6 +153,17 @@ pub record StoppedRun (fault : Fault) (old new : WorldState) (name : List ℕ) :
   pub of_link : LinkOf old new
   pub empty : of_log.log.held ≡ 0
   pub stopped : Stopped fault of_link.link of_link.kept (headed of_log.log) of_log.kept
+
+-- what was written on the link is a front of what the one-thread store says to all that the bytes taken ask
+pub record FrontRun (old new : WorldState) : Type 0 where
+  pub of_link : LinkOf old new
+  pub taken : List ℕ
+  pub ended : Bool
+  pub said : List ℕ
+  pub more : List ℕ
+  pub took : Took of_link.link of_link.kept taken
+  pub says : Says of_link.link of_link.kept said
+  pub front : said_to (asked taken ended) ≡ said ++ more
 
 -- the last warning is the text of the status, and the status is one of the nine
 abbrev pub Warned : ℕ → WorldState → WorldState → Type 0

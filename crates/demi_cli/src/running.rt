@@ -3,7 +3,7 @@ ghost use Rattle.demi_core.specs.Outside.{Rose};
 ghost use Rattle.demi_core.specs.World.{Link, Log, WorldState, after_links, after_warn};
 ghost use Rattle.demi_cli.specs.Outcome.{is_pipe, log_name, reported, status_of};
 ghost use Rattle.demi_cli.specs.declared.serving.Fault.{Fault};
-ghost use Rattle.demi_cli.specs.Run.{AtLink, with_link, Ran, outcome_of, Keeps, CannotOpen, BadLog, EmptyLog, LogFaulted, ReadFaulted, WriteFaulted, WholeRun, Unlinked, StoppedRun, status_of_fault, Warned};
+ghost use Rattle.demi_cli.specs.Run.{AtLink, with_link, Ran, outcome_of, Keeps, CannotOpen, BadLog, EmptyLog, LogFaulted, ReadFaulted, WriteFaulted, WholeRun, NoLink, Unlinked, StoppedRun, FrontRun, status_of_fault, Warned};
 
 use crate::outcome::Outcome;
 use crate::reporting::report;
@@ -147,6 +147,7 @@ pub fn run<W: World>(alloc: Global, words: &Vec<String>, world: &mut W) -> u8
     ensures stopped { (fault : Fault) → result ≡ status_of_fault fault
         → Unlinked fault (W.state world.old) (W.state world.new) (log_name (map string_bytes words.now.items))
         ⊎ StoppedRun fault (W.state world.old) (W.state world.new) (log_name (map string_bytes words.now.items)) }
+    ensures front { (fault : Fault) → result ≡ status_of_fault fault → NoLink (W.state world.old) (W.state world.new) ⊎ FrontRun (W.state world.old) (W.state world.new) }
     ensures said { (W.state world.new).said ≡ (W.state world.old).said }
     ensures print_faults { W.print_faults world.new ≡ W.print_faults world.old }
     ensures warned { Warned result (W.state world.old) (W.state world.new) }

@@ -86,21 +86,49 @@ fn run_of(alloc: Global, words: &[&str], setup: &Setup) -> Result<Left, Fail> {
     })
 }
 
-const PUTS_AND_GETS: &[u8] = b"\x01\x01\x00\x00\x00\x01a1\x02\x01\x00\x00\x00\x00a\x01\x01\x00\x00\x00\x01a2\x02\x01\x00\x00\x00\x00a\x03\x00\x00\x00\x00\x00";
+const PUTS_AND_GETS: &[u8] =
+    b"\x01\x01\x00\x00\x00\x01a1\x02\x01\x00\x00\x00\x00a\x01\x01\x00\x00\x00\x01a2\x02\x01\x00\x00\x00\x00a\x03\x00\x00\x00\x00\x00";
 
-const THEIR_REPLIES: &[u8] = b"\x81\x00\x00\x00\x00\x00\x00\x00\x00\x01\x00\x00\x00\x00\x00\x00\x00\x01\x00\x00\x00\x011\x82\x00\x00\x00\x00\x00\x00\x00\x00\x02\x00\x00\x00\x00\x00\x00\x00\x01\x00\x00\x00\x011\x81\x00\x00\x00\x00\x00\x00\x00\x00\x03\x00\x00\x00\x00\x00\x00\x00\x02\x00\x00\x00\x012\x82\x00\x00\x00\x00\x00\x00\x00\x00\x04\x00\x00\x00\x00\x00\x00\x00\x02\x00\x00\x00\x012\x85\x00\x00\x00\x00\x00\x00\x00\x00\x05\x00\x00\x00\x00\x00\x00\x00\x00\x00\x00\x00\x00";
+const THEIR_REPLIES: &[u8] =
+    b"\x81\x00\x00\x00\x00\x00\x00\x00\x00\x01\x00\x00\x00\x00\x00\x00\x00\x01\x00\x00\x00\x011\x82\x00\x00\x00\x00\x00\x00\x00\x00\x02\x00\x00\x00\x00\x00\x00\x00\x01\x00\x00\x00\x011\x81\x00\x00\x00\x00\x00\x00\x00\x00\x03\x00\x00\x00\x00\x00\x00\x00\x02\x00\x00\x00\x012\x82\x00\x00\x00\x00\x00\x00\x00\x00\x04\x00\x00\x00\x00\x00\x00\x00\x02\x00\x00\x00\x012\x85\x00\x00\x00\x00\x00\x00\x00\x00\x05\x00\x00\x00\x00\x00\x00\x00\x00\x00\x00\x00\x00";
 
-const THEIR_LOG: &[u8] = b"DEMILOG1\x00\x00\x00\x09\x00\x00\x00\x00\x00\x00\x01a1\x00\x00\x00\x09\x00\x00\x00\x00\x00\x02\x01a2";
+const THEIR_LOG: &[u8] =
+    b"DEMILOG1\x00\x00\x00\x09\x00\x00\x00\x00\x00\x00\x01a1\x00\x00\x00\x09\x00\x00\x00\x00\x00\x02\x01a2";
 
 #[test]
 fn requests_are_answered_and_logged(rt: HostRuntime) -> Result<(), Fail> {
     let rows: [(&str, &[u8], &[u8], &[u8]); 6] = [
-        ("a put", b"\x01\x01\x00\x00\x00\x01a1", b"\x81\x00\x00\x00\x00\x00\x00\x00\x00\x01\x00\x00\x00\x00\x00\x00\x00\x01\x00\x00\x00\x011", b"DEMILOG1\x00\x00\x00\x09\x00\x00\x00\x00\x00\x00\x01a1"),
+        (
+            "a put",
+            b"\x01\x01\x00\x00\x00\x01a1",
+            b"\x81\x00\x00\x00\x00\x00\x00\x00\x00\x01\x00\x00\x00\x00\x00\x00\x00\x01\x00\x00\x00\x011",
+            b"DEMILOG1\x00\x00\x00\x09\x00\x00\x00\x00\x00\x00\x01a1",
+        ),
         ("nothing", b"", b"", b"DEMILOG1"),
-        ("a get of a missing key", b"\x02\x01\x00\x00\x00\x00b", b"\x83\x00\x00\x00\x00\x00\x00\x00\x00\x01\x00\x00\x00\x00\x00\x00\x00\x00\x00\x00\x00\x00", b"DEMILOG1"),
-        ("puts, gets and an end frame", PUTS_AND_GETS, THEIR_REPLIES, THEIR_LOG),
-        ("an empty value", b"\x01\x01\x00\x00\x00\x00b\x02\x01\x00\x00\x00\x00b", b"\x81\x00\x00\x00\x00\x00\x00\x00\x00\x01\x00\x00\x00\x00\x00\x00\x00\x01\x00\x00\x00\x00\x82\x00\x00\x00\x00\x00\x00\x00\x00\x02\x00\x00\x00\x00\x00\x00\x00\x01\x00\x00\x00\x00", b"DEMILOG1\x00\x00\x00\x08\x00\x00\x00\x00\x00\x00\x01b"),
-        ("an end frame and more", b"\x03\x00\x00\x00\x00\x00\x01\x01\x00\x00\x00\x01a1", b"\x85\x00\x00\x00\x00\x00\x00\x00\x00\x01\x00\x00\x00\x00\x00\x00\x00\x00\x00\x00\x00\x00", b"DEMILOG1"),
+        (
+            "a get of a missing key",
+            b"\x02\x01\x00\x00\x00\x00b",
+            b"\x83\x00\x00\x00\x00\x00\x00\x00\x00\x01\x00\x00\x00\x00\x00\x00\x00\x00\x00\x00\x00\x00",
+            b"DEMILOG1",
+        ),
+        (
+            "puts, gets and an end frame",
+            PUTS_AND_GETS,
+            THEIR_REPLIES,
+            THEIR_LOG,
+        ),
+        (
+            "an empty value",
+            b"\x01\x01\x00\x00\x00\x00b\x02\x01\x00\x00\x00\x00b",
+            b"\x81\x00\x00\x00\x00\x00\x00\x00\x00\x01\x00\x00\x00\x00\x00\x00\x00\x01\x00\x00\x00\x00\x82\x00\x00\x00\x00\x00\x00\x00\x00\x02\x00\x00\x00\x00\x00\x00\x00\x01\x00\x00\x00\x00",
+            b"DEMILOG1\x00\x00\x00\x08\x00\x00\x00\x00\x00\x00\x01b",
+        ),
+        (
+            "an end frame and more",
+            b"\x03\x00\x00\x00\x00\x00\x01\x01\x00\x00\x00\x01a1",
+            b"\x85\x00\x00\x00\x00\x00\x00\x00\x00\x01\x00\x00\x00\x00\x00\x00\x00\x00\x00\x00\x00\x00",
+            b"DEMILOG1",
+        ),
     ];
     for (name, input, output, log) in rows {
         let left = run_of(rt.alloc(), &["pipe", "L"], &on_an_empty_log(input))?;
@@ -115,14 +143,62 @@ fn requests_are_answered_and_logged(rt: HostRuntime) -> Result<(), Fail> {
 #[test]
 fn refused_frames_are_answered_with_their_codes(rt: HostRuntime) -> Result<(), Fail> {
     let rows: [(&str, &[u8], &[u8], &[u8], &[u8]); 8] = [
-        ("too long a value", b"\x01\x01\x00\x01\x00\x01", b"\x84\x00\x00\x00\x00\x00\x00\x00\x00\x01\x00\x00\x00\x00\x00\x00\x00\x00\x00\x00\x00\x01\x03", b"DEMILOG1", b"demi: link 0 refused with code 3"),
-        ("no such kind", b"\x09\x00\x00\x01\x00\x01", b"\x84\x00\x00\x00\x00\x00\x00\x00\x00\x01\x00\x00\x00\x00\x00\x00\x00\x00\x00\x00\x00\x01\x01", b"DEMILOG1", b"demi: link 0 refused with code 1"),
-        ("no key", b"\x01\x00\x00\x01\x00\x01", b"\x84\x00\x00\x00\x00\x00\x00\x00\x00\x01\x00\x00\x00\x00\x00\x00\x00\x00\x00\x00\x00\x01\x02", b"DEMILOG1", b"demi: link 0 refused with code 2"),
-        ("too long a value of a get", b"\x02\x01\x00\x01\x00\x01", b"\x84\x00\x00\x00\x00\x00\x00\x00\x00\x01\x00\x00\x00\x00\x00\x00\x00\x00\x00\x00\x00\x01\x03", b"DEMILOG1", b"demi: link 0 refused with code 3"),
-        ("a get with a value", b"\x02\x01\x00\x00\x00\x01a1", b"\x84\x00\x00\x00\x00\x00\x00\x00\x00\x01\x00\x00\x00\x00\x00\x00\x00\x00\x00\x00\x00\x01\x04", b"DEMILOG1", b"demi: link 0 refused with code 4"),
-        ("an end frame with a key", b"\x03\x01\x00\x00\x00\x00", b"\x84\x00\x00\x00\x00\x00\x00\x00\x00\x01\x00\x00\x00\x00\x00\x00\x00\x00\x00\x00\x00\x01\x04", b"DEMILOG1", b"demi: link 0 refused with code 4"),
-        ("a head that is cut off", b"\x01\x01\x00\x00\x00\x01a1\x01\x01\x00", b"\x81\x00\x00\x00\x00\x00\x00\x00\x00\x01\x00\x00\x00\x00\x00\x00\x00\x01\x00\x00\x00\x011\x84\x00\x00\x00\x00\x00\x00\x00\x00\x02\x00\x00\x00\x00\x00\x00\x00\x00\x00\x00\x00\x01\x05", b"DEMILOG1\x00\x00\x00\x09\x00\x00\x00\x00\x00\x00\x01a1", b"demi: link 0 refused with code 5"),
-        ("content that is cut off", b"\x01\x02\x00\x00\x00\x03ab1", b"\x84\x00\x00\x00\x00\x00\x00\x00\x00\x01\x00\x00\x00\x00\x00\x00\x00\x00\x00\x00\x00\x01\x05", b"DEMILOG1", b"demi: link 0 refused with code 5"),
+        (
+            "too long a value",
+            b"\x01\x01\x00\x01\x00\x01",
+            b"\x84\x00\x00\x00\x00\x00\x00\x00\x00\x01\x00\x00\x00\x00\x00\x00\x00\x00\x00\x00\x00\x01\x03",
+            b"DEMILOG1",
+            b"demi: link 0 refused with code 3",
+        ),
+        (
+            "no such kind",
+            b"\x09\x00\x00\x01\x00\x01",
+            b"\x84\x00\x00\x00\x00\x00\x00\x00\x00\x01\x00\x00\x00\x00\x00\x00\x00\x00\x00\x00\x00\x01\x01",
+            b"DEMILOG1",
+            b"demi: link 0 refused with code 1",
+        ),
+        (
+            "no key",
+            b"\x01\x00\x00\x01\x00\x01",
+            b"\x84\x00\x00\x00\x00\x00\x00\x00\x00\x01\x00\x00\x00\x00\x00\x00\x00\x00\x00\x00\x00\x01\x02",
+            b"DEMILOG1",
+            b"demi: link 0 refused with code 2",
+        ),
+        (
+            "too long a value of a get",
+            b"\x02\x01\x00\x01\x00\x01",
+            b"\x84\x00\x00\x00\x00\x00\x00\x00\x00\x01\x00\x00\x00\x00\x00\x00\x00\x00\x00\x00\x00\x01\x03",
+            b"DEMILOG1",
+            b"demi: link 0 refused with code 3",
+        ),
+        (
+            "a get with a value",
+            b"\x02\x01\x00\x00\x00\x01a1",
+            b"\x84\x00\x00\x00\x00\x00\x00\x00\x00\x01\x00\x00\x00\x00\x00\x00\x00\x00\x00\x00\x00\x01\x04",
+            b"DEMILOG1",
+            b"demi: link 0 refused with code 4",
+        ),
+        (
+            "an end frame with a key",
+            b"\x03\x01\x00\x00\x00\x00",
+            b"\x84\x00\x00\x00\x00\x00\x00\x00\x00\x01\x00\x00\x00\x00\x00\x00\x00\x00\x00\x00\x00\x01\x04",
+            b"DEMILOG1",
+            b"demi: link 0 refused with code 4",
+        ),
+        (
+            "a head that is cut off",
+            b"\x01\x01\x00\x00\x00\x01a1\x01\x01\x00",
+            b"\x81\x00\x00\x00\x00\x00\x00\x00\x00\x01\x00\x00\x00\x00\x00\x00\x00\x01\x00\x00\x00\x011\x84\x00\x00\x00\x00\x00\x00\x00\x00\x02\x00\x00\x00\x00\x00\x00\x00\x00\x00\x00\x00\x01\x05",
+            b"DEMILOG1\x00\x00\x00\x09\x00\x00\x00\x00\x00\x00\x01a1",
+            b"demi: link 0 refused with code 5",
+        ),
+        (
+            "content that is cut off",
+            b"\x01\x02\x00\x00\x00\x03ab1",
+            b"\x84\x00\x00\x00\x00\x00\x00\x00\x00\x01\x00\x00\x00\x00\x00\x00\x00\x00\x00\x00\x00\x01\x05",
+            b"DEMILOG1",
+            b"demi: link 0 refused with code 5",
+        ),
     ];
     for (name, input, output, log, warned) in rows {
         let left = run_of(rt.alloc(), &["pipe", "L"], &on_an_empty_log(input))?;
@@ -150,7 +226,10 @@ fn pieces_of_any_length_give_the_same_output(rt: HostRuntime) -> Result<(), Fail
             ..on_an_empty_log(refused)
         };
         let left = run_of(rt.alloc(), &["pipe", "L"], &cut)?;
-        assert_eq!(rt; left.output.as_slice(), b"\x81\x00\x00\x00\x00\x00\x00\x00\x00\x01\x00\x00\x00\x00\x00\x00\x00\x01\x00\x00\x00\x011\x84\x00\x00\x00\x00\x00\x00\x00\x00\x02\x00\x00\x00\x00\x00\x00\x00\x00\x00\x00\x00\x01\x05".as_slice());
+        assert_eq!(rt;
+            left.output.as_slice(),
+            b"\x81\x00\x00\x00\x00\x00\x00\x00\x00\x01\x00\x00\x00\x00\x00\x00\x00\x01\x00\x00\x00\x011\x84\x00\x00\x00\x00\x00\x00\x00\x00\x02\x00\x00\x00\x00\x00\x00\x00\x00\x00\x00\x00\x01\x05".as_slice()
+        );
     }
     Ok(())
 }
@@ -189,11 +268,20 @@ fn a_put_that_comes_in_three_pieces(rt: HostRuntime) -> Result<(), Fail> {
 
 #[test]
 fn other_words_are_no_command(rt: HostRuntime) -> Result<(), Fail> {
-    let lists: [&[&str]; 5] = [&[], &["pipe"], &["pipe", "L", "M"], &["serve", "L"], &["PIPE", "L"]];
+    let lists: [&[&str]; 5] = [
+        &[],
+        &["pipe"],
+        &["pipe", "L", "M"],
+        &["serve", "L"],
+        &["PIPE", "L"],
+    ];
     for words in lists {
         let left = run_of(rt.alloc(), words, &on_an_empty_log(PUTS_AND_GETS))?;
         assert_eq!(rt; left.status, 1);
-        assert_eq!(rt; left.warned.as_slice(), b"usage: demi pipe, serve, bench, check or log".as_slice());
+        assert_eq!(rt;
+            left.warned.as_slice(),
+            b"usage: demi pipe, serve, bench, check or log".as_slice()
+        );
         assert_eq!(rt; left.rest, 36);
         assert_eq!(rt; left.log.len(), 0);
     }
@@ -212,7 +300,10 @@ fn a_log_that_cannot_be_had_takes_no_link(rt: HostRuntime) -> Result<(), Fail> {
     };
     let left = run_of(rt.alloc(), &["pipe", "L"], &used)?;
     assert_eq!(rt; left.status, 7);
-    assert_eq!(rt; left.warned.as_slice(), b"demi: bad log at byte 0".as_slice());
+    assert_eq!(rt;
+        left.warned.as_slice(),
+        b"demi: bad log at byte 0".as_slice()
+    );
     assert_eq!(rt; left.rest, 36);
     assert_eq!(rt; left.log.as_slice(), THEIR_LOG);
     Ok(())
@@ -258,7 +349,11 @@ fn a_source_that_fails_a_read(rt: HostRuntime) -> Result<(), Fail> {
         let (left, ended, warned) = faulty(rt.alloc(), &[read], &[], &[])?;
         assert_eq!(rt; left, sizes, "read {read}");
         assert_eq!(rt; ended, status, "read {read}");
-        let text = if status == 2 { b"demi: read fault on link 0".as_slice() } else { b"" };
+        let text = if status == 2 {
+            b"demi: read fault on link 0".as_slice()
+        } else {
+            b""
+        };
         assert_eq!(rt; warned.as_slice(), text, "read {read}");
     }
     Ok(())
@@ -283,7 +378,11 @@ fn a_sink_that_fails_a_write(rt: HostRuntime) -> Result<(), Fail> {
         assert_eq!(rt; left.1, written, "write {write}");
         assert_eq!(rt; left.2, logged, "write {write}");
         assert_eq!(rt; ended, status, "write {write}");
-        let text = if status == 3 { b"demi: write fault on link 0".as_slice() } else { b"" };
+        let text = if status == 3 {
+            b"demi: write fault on link 0".as_slice()
+        } else {
+            b""
+        };
         assert_eq!(rt; warned.as_slice(), text, "write {write}");
     }
     Ok(())
@@ -297,7 +396,11 @@ fn a_disk_that_fails_an_append(rt: HostRuntime) -> Result<(), Fail> {
         assert_eq!(rt; left.1, written, "append {append}");
         assert_eq!(rt; left.2, logged, "append {append}");
         assert_eq!(rt; ended, status, "append {append}");
-        let text = if status == 4 { b"demi: log fault".as_slice() } else { b"" };
+        let text = if status == 4 {
+            b"demi: log fault".as_slice()
+        } else {
+            b""
+        };
         assert_eq!(rt; warned.as_slice(), text, "append {append}");
     }
     Ok(())
@@ -312,7 +415,11 @@ fn an_input_cut_anywhere(rt: HostRuntime) -> Result<(), Fail> {
         };
         let left = run_of(rt.alloc(), &["pipe", "L"], &cut)?;
         let whole = [0, 8, 15, 23, 30, 36].contains(&length);
-        let text = if whole { b"".as_slice() } else { b"demi: link 0 refused with code 5" };
+        let text = if whole {
+            b"".as_slice()
+        } else {
+            b"demi: link 0 refused with code 5"
+        };
         assert_eq!(rt; left.status, if whole { 0 } else { 6 }, "cut at {length}");
         assert_eq!(rt; left.warned.as_slice(), text, "cut at {length}");
         assert_eq!(rt; left.rest, 0, "cut at {length}");
@@ -328,7 +435,13 @@ fn a_sink_that_fails_between_two_replies(rt: HostRuntime) -> Result<(), Fail> {
     };
     let left = run_of(rt.alloc(), &["pipe", "L"], &two)?;
     assert_eq!(rt; left.status, 3);
-    assert_eq!(rt; left.output.as_slice(), b"\x81\x00\x00\x00\x00\x00\x00\x00\x00\x01\x00\x00\x00\x00\x00\x00\x00\x01\x00\x00\x00\x011".as_slice());
-    assert_eq!(rt; left.log.as_slice(), b"DEMILOG1\x00\x00\x00\x09\x00\x00\x00\x00\x00\x00\x01a1\x00\x00\x00\x09\x00\x00\x00\x00\x00\x01\x01a2".as_slice());
+    assert_eq!(rt;
+        left.output.as_slice(),
+        b"\x81\x00\x00\x00\x00\x00\x00\x00\x00\x01\x00\x00\x00\x00\x00\x00\x00\x01\x00\x00\x00\x011".as_slice()
+    );
+    assert_eq!(rt;
+        left.log.as_slice(),
+        b"DEMILOG1\x00\x00\x00\x09\x00\x00\x00\x00\x00\x00\x01a1\x00\x00\x00\x09\x00\x00\x00\x00\x00\x01\x01a2".as_slice()
+    );
     Ok(())
 }

@@ -217,7 +217,7 @@ pub front_shorter : (ended : Bool) (bytes : List ℕ) (request : Request) (rest 
 front_shorter ended bytes request rest is = elim (cases_lt (length bytes) 6) [
   | inl less ↦ absurd (few_ends ended bytes request rest less is)
   | inr more ↦
-    let p = of_content ended (head_kind bytes) (head_key bytes) (head_value bytes) (drop 6 bytes) (code_of_head (head_kind bytes) (head_key bytes) (head_value bytes)) request rest (sym (by_head bytes more ended) ∙ is) in
-    let cut : length (drop (head_key bytes + head_value bytes) (drop 6 bytes)) ≡ length rest = ap length p.3 in
-    omega (arith, length-drop (head_key bytes + head_value bytes) (drop 6 bytes), length-drop 6 bytes)
+      let p = of_content ended (head_kind bytes) (head_key bytes) (head_value bytes) (drop 6 bytes) (code_of_head (head_kind bytes) (head_key bytes) (head_value bytes)) request rest (sym (by_head bytes more ended) ∙ is) in
+      let cut : length (drop (head_key bytes + head_value bytes) (drop 6 bytes)) ≡ length rest = ap length p.3 in
+      omega (arith, length-drop (head_key bytes + head_value bytes) (drop 6 bytes), length-drop 6 bytes)
 ]

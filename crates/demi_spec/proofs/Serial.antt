@@ -35,3 +35,27 @@ serial-push index records limit (r ∷ asks) ask =
     (serial-push (index + 1) (records ++ new) limit asks ask)
     ∙ shift index records new limit (record { worker = 0; sequence = index + 1; answer = answer records limit r }) (serial_from (index + 1) (records ++ new) limit asks) (length asks) ask
     ∙ ap (λ n. with_one index records limit (serial_from index records limit (r ∷ asks)) n ask) (omega arith)
+
+-- what was answered stays answered, whatever is asked behind it
+pub record Longer (index : ℕ) (records : List Record) (limit : ℕ) (asks more : List Asked) : Type 0 where
+  pub replies : List Reply
+  pub added_records : List Record
+  pub replies_are : (serial_from index records limit (asks ++ more)).replies ≡ (serial_from index records limit asks).replies ++ replies
+  pub records_are : (serial_from index records limit (asks ++ more)).records ≡ (serial_from index records limit asks).records ++ added_records
+
+pub serial-append : (index : ℕ) (records : List Record) (limit : ℕ) (asks more : List Asked) → Longer index records limit asks more
+serial-append index records limit [] more = record {
+  replies = (serial_from index records limit more).replies;
+  added_records = (serial_from index records limit more).records;
+  replies_are = refl;
+  records_are = refl;
+}
+serial-append index records limit (ask ∷ asks) more =
+    let new : List Record = added records limit 0 index ask in
+    let rest = serial-append (index + 1) (records ++ new) limit asks more in
+    record {
+      replies = rest.replies;
+      added_records = rest.added_records;
+      replies_are = ap (λ (l : List Reply). record { worker = 0; sequence = index + 1; answer = answer records limit ask } ∷ l) rest.replies_are;
+      records_are = ap (λ (l : List Record). new ++ l) rest.records_are ∙ sym (append_assoc new (serial_from (index + 1) (records ++ new) limit asks).records rest.added_records);
+    }

@@ -5,6 +5,9 @@ ghost use Rattle.demi_spec.specs.Request.{IsBytes, Request, IsRequest, spelling 
 ghost use Rattle.demi_spec.specs.Input.{Ending, Whole, Takes, front, parse, Parses};
 ghost use Rattle.demi_spec.specs.LogText.{IsPayload, entries, entry_front, log_text};
 ghost use Rattle.demi_spec.specs.Record.{Record, IsRecord, log_of, records};
+ghost use Rattle.demi_spec.specs.Input.{Asked};
+ghost use Rattle.demi_spec.specs.Reply.{Reply};
+ghost use Rattle.demi_spec.specs.Store.{serial};
 
 /// A text of bytes is exactly the requests that `parse` finds, and ends just so; what is read at its front is spelled
 /// there, what is spelled is read again, and no request begins the spelling of another.
@@ -22,4 +25,10 @@ pub fn a_log_text_is_read_back()
     ensures payloads { (payloads : List (List ℕ)) → AllByRecursion IsPayload payloads → entries (log_text payloads) ≡ Ok payloads }
     ensures recorded { (rs : List Record) → AllByRecursion IsRecord rs → records (log_of rs) ≡ Ok rs }
     ensures bad { (payloads : List (List ℕ)) (rest : List ℕ) → AllByRecursion IsPayload payloads → 0 < length rest → entry_front rest ≡ None → entries (log_text payloads ++ rest) ≡ Err (length (log_text payloads)) }
+{}
+
+/// What the one-thread store has answered stays answered, and what it has logged stays logged, whatever is asked next.
+pub fn what_was_answered_stays()
+    ensures replies { (old : List Record) (limit : ℕ) (asks more : List Asked) → (further : List Reply) × ((serial old limit (asks ++ more)).replies ≡ (serial old limit asks).replies ++ further) }
+    ensures added { (old : List Record) (limit : ℕ) (asks more : List Asked) → (further : List Record) × ((serial old limit (asks ++ more)).records ≡ (serial old limit asks).records ++ further) }
 {}

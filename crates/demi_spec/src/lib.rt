@@ -6,4 +6,4 @@
 
 mod laws;
 
-pub use laws::{a_log_text_is_read_back, a_text_has_one_reading};
+pub use laws::{a_log_text_is_read_back, a_text_has_one_reading, what_was_answered_stays};

@@ -2,6 +2,7 @@ use Rattle.std.proofs.Common.{◌≡◌, refl, ap, List, ℕ}
 use Rattle.demi_cli.specs.declared.outcome.Outcome.TheVariants as outcome
 use Rattle.demi_core.specs.World.{WorldState}
 use Rattle.demi_cli.proofs.Clauses as clauses
+use Rattle.demi_cli.proofs.Fronts.{front}
 use Rattle.demi_cli.proofs.running.run.Goals as goal
 
 pub returns-in_default-clause-warned : goal.returns-in_default-clause-warned
@@ -46,3 +47,9 @@ pub returns-clause-cannot_open : goal.returns-clause-cannot_open
 returns-clause-cannot_open g c =
     let r = rw c.in-Some.ensures.1 at c.pipe-outcome.ensures.ran in
     rw c.report-2.ensures.faults (λ e. clauses.cannot_open (g.W.World.state c.args.world.now) (g.W.World.state c.pipe-outcome.new.world) (g.W.World.state c.report-2.new.world) _ _ _ c.pipe-outcome.result c.report-2.result r c.report-2.ensures.status c.report-2.ensures.warned e)
+
+pub returns-clause-front : goal.returns-clause-front
+returns-clause-front g c =
+    let r = rw c.in-Some.ensures.1 at c.pipe-outcome.ensures.ran in
+    λ f e. front f (g.W.World.state c.args.world.now) (g.W.World.state c.report-2.new.world) _
+    (clauses.stopped (g.W.World.state c.args.world.now) (g.W.World.state c.pipe-outcome.new.world) (g.W.World.state c.report-2.new.world) _ _ _ c.pipe-outcome.result c.report-2.result r c.report-2.ensures.status c.report-2.ensures.warned f e)
