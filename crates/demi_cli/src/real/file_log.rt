@@ -3,12 +3,16 @@ ghost use Rattle.std.specs.Prelude.{◌≡◌, ◌≤◌, ◌^◌, None, IfSome}
 use super::once::{read_once_at, write_once_at};
 use demi_core::{Disk, Failed};
 use std::fs::{File, OpenOptions};
+use std::os::fd::AsRawFd;
 
 // How many bytes a disk holds at most.
 const MAX_HELD_BYTES: u64 = 1 << 40;
 
 // How many bytes one read takes at most.
 const READ_BYTES: usize = 8192;
+
+// The descriptors below this one are those of the standard streams.
+const FIRST_FREE_DESCRIPTOR: i32 = 3;
 
 /// A file that is read at places, grows at its end and is cut there.
 ///
@@ -23,7 +27,9 @@ pub struct FileLog {
 }
 
 impl FileLog {
-    // The file of that name, made empty where there is none. None at an error, and of a file that is too large.
+    // The file of that name, made empty where there is none. None at an error, of a file that is too large, and where
+    // the file would get the descriptor of a standard stream that is closed: what is meant for that stream would go
+    // into the log, and what stands in the log would come as input.
     pub(super) fn open(rt: &HostRuntime, name: &str) -> Option<FileLog>
         ensures { IfSome result (λ log. log.faults ≡ 0) }
     {
@@ -31,7 +37,7 @@ impl FileLog {
         options.read(true).write(true).create(true);
         let file = options.open(rt, name).ok()?;
         let held_bytes = file.metadata().ok()?.len();
-        if held_bytes > MAX_HELD_BYTES {
+        if held_bytes > MAX_HELD_BYTES || file.as_raw_fd() < FIRST_FREE_DESCRIPTOR {
             return None;
         }
         Some(FileLog {

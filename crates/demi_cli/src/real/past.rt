@@ -35,7 +35,13 @@ impl Past {
     }
 
     // A link was kept under its number.
-    pub(super) fn link_kept(&self, number: u32, taken: u64, read_faults: u64, write_faults: u64) -> Past
+    pub(super) fn link_kept(
+        &self,
+        number: u32,
+        taken: u64,
+        read_faults: u64,
+        write_faults: u64,
+    ) -> Past
         ensures { result.calls ≡ link_kept number taken read_faults write_faults ∷ self.now.calls }
     {
         Past::told(self, b"", number as u64, taken, read_faults, write_faults)

@@ -73,13 +73,12 @@ impl World for RealWorld {
             StreamIn::new(self.rt.stdin()),
             StreamOut::new(self.rt.stdout()),
         ));
-        self.past = Past::link_given(&self.past);
+        self.past = self.past.link_given();
         Ok(links)
     }
 
     fn keep_link(&mut self, number: u32, source: StreamIn, sink: StreamOut) {
-        self.past = Past::link_kept(
-            &self.past,
+        self.past = self.past.link_kept(
             number,
             source.given_bytes(),
             source.faults(),
@@ -88,35 +87,38 @@ impl World for RealWorld {
     }
 
     /// The file of that name, made empty where there is none. A folder, a file that may not be read and written, a
-    /// name in a folder that is not there, and a file above 2^40 bytes give `Failed`.
+    /// name in a folder that is not there, a file above 2^40 bytes, and any file while a standard stream is closed give
+    /// `Failed`.
     fn log(&mut self, alloc: Global, name: &str) -> Result<FileLog, Halt> {
         let _ = alloc;
         let Some(log) = FileLog::open(&self.rt, name) else {
             self.faults = self.faults.saturating_add(1);
             return Err(Halt::Failed);
         };
-        self.past = Past::log_given(&self.past, name.as_bytes(), log.held_bytes());
+        self.past = self.past.log_given(name.as_bytes(), log.held_bytes());
         Ok(log)
     }
 
     fn keep_log(&mut self, name: &str, log: FileLog) {
-        self.past = Past::log_kept(&self.past, name.as_bytes(), log.held_bytes(), log.faults());
+        self.past = self
+            .past
+            .log_kept(name.as_bytes(), log.held_bytes(), log.faults());
     }
 
     /// Prints the text and a newline on standard error. A fault there has no place to be told and is passed over.
     fn warn(&mut self, text: &str) {
         let _ = eprintln!(self.rt; "{text}");
-        self.past = Past::text_warned(&self.past, text.as_bytes());
+        self.past = self.past.text_warned(text.as_bytes());
     }
 
     fn say(&mut self, text: &str) -> Result<(), Failed> {
         let mut stdout = self.rt.stdout();
         if !print_whole(&mut stdout, text.as_bytes()) {
             self.print_faults = self.print_faults.saturating_add(1);
-            self.past = Past::text_said(&self.past, &text.as_bytes()[..0]);
+            self.past = self.past.text_said(&text.as_bytes()[..0]);
             return Err(Failed);
         }
-        self.past = Past::text_said(&self.past, text.as_bytes());
+        self.past = self.past.text_said(text.as_bytes());
         Ok(())
     }
 }
