@@ -2,3 +2,4 @@ pub mod Serving
 pub mod Steps
 pub mod Outcome
 pub mod Run
+pub mod Real

@@ -1,0 +1,50 @@
+//! The program `demi`, a store that takes framed requests and appends each put to a log.
+//!
+//! [`run`] is all that it does, over any world: what it promises are its clauses. Below it, `serving` answers the
+//! requests of one link, and `reporting` gives each outcome its exit status and its text. `real` is the world that
+//! `main` makes: standard input and output, and files.
+//! Not promised: what a real stream or file holds, and that memory is found.
+#![tactic(auto)]
+
+mod answering;
+mod outcome;
+mod real;
+mod replying;
+mod reporting;
+mod running;
+mod serving;
+#[cfg(test)]
+mod tests;
+
+use crate::real::RealWorld;
+use crate::running::run;
+use demi_core::{NoMemory, World};
+use std::env;
+use std::io::ErrorKind;
+use std::process::ExitCode;
+
+fn main(rt: HostRuntime) -> ExitCode {
+    let mut world = RealWorld::new(rt);
+    match words(&rt) {
+        Ok(words) => ExitCode::from(run(rt.alloc(), &words, &mut world)),
+        Err(NoMemory) => {
+            world.warn("demi: out of memory");
+            ExitCode::from(5)
+        }
+    }
+}
+
+// The words after the program's name. Where one is no text there are none, and those are no command either.
+fn words(rt: &HostRuntime) -> Result<Vec<String>, NoMemory> {
+    let mut words = Vec::new(rt.alloc());
+    match env::args(rt) {
+        Ok(args) => {
+            for word in args.skip(1) {
+                words.push(word)?;
+            }
+        }
+        Err(error) if error.kind() == ErrorKind::OutOfMemory => return Err(NoMemory),
+        Err(_) => {}
+    }
+    Ok(words)
+}

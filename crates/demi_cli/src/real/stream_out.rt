@@ -1,0 +1,46 @@
+ghost use Rattle.std.specs.Prelude.{◌≡◌, None};
+
+use super::once::write_once;
+use demi_core::{Failed, Sink};
+use std::io::Stdout;
+
+/// Standard output.
+#[derive(Drop)]
+pub struct StreamOut {
+    stdout: Stdout,
+    faults: u64,
+}
+
+impl StreamOut {
+    // Nothing was written yet.
+    pub(super) fn new(stdout: Stdout) -> StreamOut
+        ensures { result.faults ≡ 0 }
+    {
+        StreamOut { stdout, faults: 0 }
+    }
+
+    // How many faults there were.
+    pub(super) fn faults(&self) -> u64
+        ensures { result ≡ self.now.faults }
+    {
+        self.faults
+    }
+}
+
+impl Sink for StreamOut {
+    ghost written = { λ s. None };
+
+    ghost faults = { λ s. s.faults };
+
+    ghost told_bytes = { λ s. tt };
+
+    fn write(&mut self, piece: &[u8]) -> Result<usize, Failed> {
+        match write_once(&mut self.stdout, piece) {
+            Some(count) => Ok(count),
+            None => {
+                self.faults = self.faults.saturating_add(1);
+                Err(Failed)
+            }
+        }
+    }
+}
