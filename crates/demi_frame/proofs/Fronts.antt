@@ -1,10 +1,10 @@
 -- What stands at the front of a text, by the fields of its head.
-use Rattle.std.proofs.Common.{◌≡◌, ℕ, ◌+◌, ◌≤◌, ◌<◌, Bool, false, true, List, length, take, drop, Option, None, Some, refl, arith, if◌then◌else◌, ◌∙◌, ap, sym, cond, nat_lt, inl, inr}
+use Rattle.std.proofs.Common.{◌≡◌, ℕ, ◌+◌, ◌≤◌, ◌<◌, Bool, false, true, List, length, take, drop, Option, None, Some, refl, arith, ◌∙◌, ap, sym, cond, nat_lt, inl, inr}
 use Rattle.std.proofs.lemmas.Bool.Decides.{nat_tests}
 use Rattle.demi_frame.specs.Decoding.{code_of}
 use Rattle.std.proofs.lemmas.Bool.{cases_lt}
 use Rattle.demi_spec.specs.Request.{Request}
-use Rattle.demi_spec.specs.Input.{Refused, Ends, Open, Front, front, front_of_content, code_of_head, head_kind, head_key, head_value, Whole, request_of}
+use Rattle.demi_spec.specs.Input.{Refused, Ends, Open, front, front_of_content, code_of_head, head_kind, head_key, head_value, Whole, request_of}
 
 pub short : (bytes : List ℕ) → length bytes < 6 → front false bytes ≡ Ends Open
 unfolding front

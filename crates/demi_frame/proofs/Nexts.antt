@@ -1,5 +1,5 @@
 -- What `next` leaves where a whole frame stands at the front.
-use Rattle.std.proofs.Common.{◌≡◌, ℕ, ◌+◌, ◌-◌, ◌≤◌, ◌<◌, false, List, length, take, drop, Option, None, Some, refl, ap, sym, ◌∙◌, arith}
+use Rattle.std.proofs.Common.{◌≡◌, ℕ, ◌+◌, ◌-◌, ◌<◌, false, List, length, take, drop, None, Some, refl, ap, sym, ◌∙◌, arith}
 use Rattle.std.proofs.lemmas.List.{drop-drop, take_rest}
 use Rattle.demi_spec.specs.Request.{Request, Put, Get, End}
 use Rattle.demi_spec.specs.Input.{Takes, front, Ends, Open, Whole}

@@ -2,13 +2,13 @@
 use Rattle.std.proofs.Common.{◌≡◌, ℕ, List, [], ◌∷◌, ◌++◌, flat_map, Option, Some, None, true, false, refl, ap, sym, ◌∙◌, subst, append_assoc, IfSome, IsSome}
 use Rattle.std.proofs.lemmas.List.{append-nil}
 use Rattle.std.proofs.lemmas.Grind.{flat_map-append}
-use Rattle.demi_spec.specs.Request.{Request, Put, Get, End, spelling, GoesOn, AllGoOn}
-use Rattle.demi_spec.specs.Input.{Ending, EndFrame, Clean, Refused, Open, Ends, Front, front, Takes, Parses}
+use Rattle.demi_spec.specs.Request.{Request, End, spelling, GoesOn, AllGoOn}
+use Rattle.demi_spec.specs.Input.{Ending, EndFrame, Refused, Open, Ends, front, Takes, Parses}
 use Rattle.demi_spec.proofs.Fronts.{refused_more, refused_ends, open_ends, ending_of as ending_at}
 use Rattle.demi_spec.proofs.Parsing.{AllGoOn-push, read_on}
 use Rattle.demi_frame.specs.declared.decoder.Step.{Step}
 use Rattle.demi_frame.specs.declared.decoder.Step.TheVariants as step
-use Rattle.demi_frame.specs.Decoding.{Decoding, after_feed, next_of, Consumes, finish_of, IsAsked, code_of}
+use Rattle.demi_frame.specs.Decoding.{Decoding, after_feed, next_of, Consumes, finish_of, code_of}
 use Rattle.demi_frame.specs.Reading.{HasRead, StopsAt, handed_out, ending_of}
 
 stops_more : (handed : List Request) (rest piece : List ℕ) (stop : Option Step) → StopsAt handed rest stop → StopsAt handed (rest ++ piece) stop

@@ -1,7 +1,7 @@
 -- What a decoder of requests holds, and what its calls do.
-use Rattle.std.specs.Prelude.{◌≡◌, ℕ, ◌+◌, ◌-◌, ◌<◌, ◌≤◌, min, Bool, true, false, List, [], ◌∷◌, ◌++◌, length, take, drop, Option, Some, None, option_map, if◌then◌else◌, ◌==◌, IsTrue, IfSome, IsSome}
+use Rattle.std.specs.Prelude.{◌≡◌, ℕ, Bool, true, false, List, [], ◌++◌, Option, Some, None, IsTrue, IfSome, IsSome}
 use Rattle.demi_spec.specs.Request.{Request, Put, Get, End, GoesOn}
-use Rattle.demi_spec.specs.Input.{Ending, EndFrame, Clean, Refused, Open, Front, Whole, Ends, front, Takes}
+use Rattle.demi_spec.specs.Input.{Refused, Open, Front, Whole, Ends, front, Takes}
 use Rattle.demi_frame.specs.declared.decoder.Step.{Step}
 use Rattle.demi_frame.specs.declared.decoder.Step.TheVariants as step
 

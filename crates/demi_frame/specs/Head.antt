@@ -1,5 +1,5 @@
 -- What the code finds at the front of a text, beside what stands there.
-use Rattle.std.specs.Prelude.{◌≡◌, ℕ, ◌+◌, ◌≤◌, ◌<◌, List, [], length, take, drop}
+use Rattle.std.specs.Prelude.{◌≡◌, ℕ, ◌+◌, ◌≤◌, ◌<◌, List, length, take, drop}
 use Rattle.demi_spec.specs.Request as request
 use Rattle.demi_spec.specs.Request.{Request}
 use Rattle.demi_spec.specs.Input.{Front}

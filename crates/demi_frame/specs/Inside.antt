@@ -1,6 +1,5 @@
 -- How the fields of a decoder stand for what it holds.
-use Rattle.std.specs.Prelude.{◌≡◌, ℕ, ◌+◌, ◌-◌, ◌<◌, ◌≤◌, Bool, true, false, List, length, take, drop, Option, Some, None, option_map, vec_capacity, vec_len, IsTrue}
-use Rattle.demi_spec.specs.Request.{Request}
+use Rattle.std.specs.Prelude.{◌≡◌, ◌+◌, ◌-◌, ◌<◌, ◌≤◌, true, false, length, take, drop, option_map, vec_capacity}
 use Rattle.demi_spec.specs.Input.{front, Ends, Open}
 use Rattle.demi_frame.specs.declared.decoder.Decoder.TheInside.{Inside}
 use Rattle.demi_frame.specs.Head.{request_at}

@@ -1,7 +1,7 @@
 -- Worked examples: they compute.
-use Rattle.std.specs.Prelude.{◌≡◌, ℕ, true, false, List, [], ◌∷◌, ◌++◌, flat_map, refl, Result, Ok, Err}
+use Rattle.std.specs.Prelude.{◌≡◌, ℕ, true, false, List, [], ◌∷◌, ◌++◌, flat_map, refl, Ok, Err}
 use Rattle.demi_spec.specs.Request.{Put}
-use Rattle.demi_spec.specs.Input.{front, parse, parse_within, EndFrame, Clean, Refused, Open, Request_of, Refused_end, asked}
+use Rattle.demi_spec.specs.Input.{front, parse, parse_within, EndFrame, Clean, Open, asked}
 use Rattle.demi_spec.specs.Reply as reply
 use Rattle.demi_spec.specs.LogText.{header, entries, entries_within, entry_front}
 use Rattle.demi_spec.specs.Record.{Record, log_of, record_of, records}

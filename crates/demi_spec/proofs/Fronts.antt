@@ -1,13 +1,13 @@
 -- What stands at the front of a text is what is spelled there.
-use Rattle.std.proofs.Common.{◌≡◌, ℕ, ◌+◌, ◌-◌, ◌^◌, ◌≤◌, ◌<◌, Bool, false, true, List, [], ◌∷◌, ◌++◌, length, take, drop, get_or, Option, None, Some, refl, arith, if◌then◌else◌, ◌∙◌, ap, sym, cond, nat_lt, inl, inr, append_assoc, ◌⊎◌, length-drop, ltb-false, length-append}
+use Rattle.std.proofs.Common.{◌≡◌, ℕ, ◌+◌, ◌^◌, ◌≤◌, ◌<◌, Bool, false, true, List, [], ◌∷◌, ◌++◌, length, take, drop, get_or, Option, None, Some, refl, arith, ◌∙◌, ap, sym, cond, nat_lt, inl, inr, append_assoc, length-drop, ltb-false, length-append}
 use Rattle.std.proofs.Math.Seq.{take-append_seam, drop-append_seam, drop-append-add}
 use Rattle.std.proofs.lemmas.Bool.Decides.{nat_tests}
 use Rattle.std.proofs.lemmas.Bool.{cases_lt, cases_eq}
 use Rattle.std.proofs.lemmas.List.{take-append-drop, drop-drop, length-take-le, length-take, get_or-take, get_or-drop, get_or_past}
 use Rattle.std.proofs.lemmas.Nat.{be_bytes_4, from_be_bytes-to_be_bytes_4}
-use Rattle.std.specs.Int.{w32, to_be_bytes, from_be_bytes}
+use Rattle.std.specs.Int.{w32, to_be_bytes}
 use Rattle.demi_spec.specs.Request.{IsBytes, Request, Put, Get, End, IsRequest, spelling, frame}
-use Rattle.demi_spec.specs.Input.{Takes, Refused, Ends, Open, Clean, EndFrame, Front, front, front_of_content, code_of_head, head_kind, head_key, head_value, Whole, request_of, Ending, cut_short}
+use Rattle.demi_spec.specs.Input.{Takes, Refused, Ends, Open, Clean, front, front_of_content, code_of_head, head_kind, head_key, head_value, Whole, request_of, Ending, cut_short}
 
 pub by_head : (bytes : List ℕ) → 6 ≤ length bytes → (ended : Bool) → front ended bytes ≡ front_of_content ended (head_kind bytes) (head_key bytes) (head_value bytes) (drop 6 bytes) (code_of_head (head_kind bytes) (head_key bytes) (head_value bytes))
 unfolding front

@@ -1,13 +1,13 @@
 -- What a log text spells is what is read of it.
-use Rattle.std.proofs.Common.{◌≡◌, ℕ, zero, suc, ◌+◌, ◌-◌, ◌≤◌, ◌<◌, ◌^◌, Bool, false, true, List, [], ◌∷◌, ◌++◌, length, take, drop, Option, None, Some, refl, arith, ◌∙◌, ap, sym, cond, nat_lt, append_assoc, length-append, flat_map, length-drop, if◌then◌else◌}
+use Rattle.std.proofs.Common.{◌≡◌, ℕ, zero, suc, ◌+◌, ◌-◌, ◌≤◌, ◌<◌, Bool, false, List, [], ◌∷◌, ◌++◌, length, take, drop, None, Some, refl, arith, ◌∙◌, ap, sym, nat_lt, append_assoc, length-append, flat_map, if◌then◌else◌}
 use Rattle.std.specs.Prelude.{Result, Ok, Err, bytes_eq}
 use Rattle.std.specs.List.{AllByRecursion}
 use Rattle.std.proofs.Math.Seq.{take-append_seam, drop-append_seam}
 use Rattle.std.proofs.lemmas.Bool.Decides.{nat_tests}
-use Rattle.std.proofs.lemmas.List.{take-append-drop, append-nil, length-take}
+use Rattle.std.proofs.lemmas.List.{append-nil}
 use Rattle.std.proofs.lemmas.Nat.{from_be_bytes-to_be_bytes_4}
 use Rattle.std.specs.Int.{w32, to_be_bytes, from_be_bytes}
-use Rattle.demi_spec.specs.LogText.{header, entry, log_text, IsPayload, IsLog, entries, entries_within, entry_front, length_that_fits, after_entry, put_first}
+use Rattle.demi_spec.specs.LogText.{header, entry, log_text, IsPayload, entries, entries_within, entry_front, length_that_fits, after_entry, put_first}
 
 fits_in : (n room : ℕ) → 0 < n → n ≤ 65798 → n ≤ room → length_that_fits n room ≡ Some n
 fits_in n room some most within = grind (arith, nat_tests)

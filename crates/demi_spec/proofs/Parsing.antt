@@ -1,10 +1,9 @@
 -- A text has one list of requests and one ending, and `parse` finds them.
-use Rattle.std.proofs.Common.{◌≡◌, ℕ, zero, suc, ◌+◌, ◌-◌, ◌≤◌, ◌<◌, Bool, false, true, List, [], ◌∷◌, ◌++◌, length, refl, arith, ◌∙◌, ap, sym, length-append, flat_map, append_assoc}
-use Rattle.std.specs.Prelude.{All}
+use Rattle.std.proofs.Common.{◌≡◌, ℕ, zero, suc, ◌+◌, ◌≤◌, ◌<◌, Bool, false, List, [], ◌∷◌, ◌++◌, length, refl, arith, ◌∙◌, ap, sym, length-append, flat_map, append_assoc}
 use Rattle.std.proofs.Common.{subst, map, add-one}
 use Rattle.std.proofs.lemmas.List.{append-nil, get_or-append-add}
 use Rattle.demi_spec.specs.Request.{IsBytes, GoesOn, AllGoOn, Request, Put, Get, End, IsRequest, spelling}
-use Rattle.demi_spec.specs.Input.{Front, Takes, Asked, Request_of, asked, asked_of, Ends, EndFrame, front, Whole, Ending, Parses, Parsed, parse, parse_within, after_front}
+use Rattle.demi_spec.specs.Input.{Front, Takes, Asked, Request_of, asked, asked_of, Ends, front, Whole, Ending, Parses, Parsed, parse, parse_within, after_front}
 use Rattle.demi_spec.proofs.Fronts.{front_again, front_takes, front_shorter}
 
 pub length-spelling : (request : Request) → 6 ≤ length (spelling request)

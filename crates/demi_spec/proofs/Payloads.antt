@@ -1,13 +1,13 @@
 -- A record's payload is read as the record.
-use Rattle.std.proofs.Common.{◌≡◌, ℕ, ◌+◌, ◌-◌, ◌≤◌, ◌<◌, ◌^◌, Bool, false, true, ◌||◌, List, [], ◌∷◌, ◌++◌, length, take, drop, Option, None, Some, refl, arith, ◌∙◌, ap, sym, cond, map, length-append, flat_map}
-use Rattle.std.specs.Prelude.{nat_lt, ◌==◌, Result, Ok, Err}
+use Rattle.std.proofs.Common.{◌≡◌, ℕ, ◌+◌, Bool, false, true, ◌||◌, List, [], ◌∷◌, length, take, drop, None, Some, refl, arith, ◌∙◌, ap, sym, cond, map, length-append}
+use Rattle.std.specs.Prelude.{nat_lt, ◌==◌, Ok}
 use Rattle.std.specs.List.{AllByRecursion}
-use Rattle.std.specs.Int.{w16, w32, to_be_bytes, from_be_bytes}
+use Rattle.std.specs.Int.{w16, w32, from_be_bytes}
 use Rattle.std.proofs.Math.Seq.{take-append_seam, drop-append_seam}
 use Rattle.std.proofs.lemmas.Bool.Decides.{nat_tests}
 use Rattle.std.proofs.lemmas.List.{drop-drop}
 use Rattle.std.proofs.lemmas.Nat.{from_be_bytes-to_be_bytes_2, from_be_bytes-to_be_bytes_4}
-use Rattle.demi_spec.specs.LogText.{put_first, entries, IsPayload}
+use Rattle.demi_spec.specs.LogText.{put_first, IsPayload}
 use Rattle.demi_spec.specs.Record.{Record, IsRecord, payload, record_of, records_from, records_in, records, after_record, log_of}
 use Rattle.demi_spec.proofs.LogTexts.{entries_text}
 

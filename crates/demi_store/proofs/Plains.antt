@@ -1,14 +1,13 @@
 -- A record that was added, or was not.
-use Rattle.std.proofs.Common.{◌≡◌, ℕ, ◌+◌, ◌<◌, ◌≤◌, List, [], ◌∷◌, ◌++◌, length, map, take, Option, refl, ap, sym, ◌∙◌, arith, flat_map, cond, true, false}
-use Rattle.std.proofs.lemmas.List.{append-nil, map-append, length-map, length-take-le}
+use Rattle.std.proofs.Common.{◌≡◌, ℕ, ◌+◌, ◌<◌, ◌≤◌, List, [], ◌∷◌, ◌++◌, length, map, take, Option, refl, ap, sym, ◌∙◌, arith, true, false}
+use Rattle.std.proofs.lemmas.List.{append-nil, map-append, length-map}
 use Rattle.std.proofs.lemmas.Bool.Decides.{nat_tests}
 use Rattle.std.specs.Prelude.{nat_le}
-use Rattle.std.specs.Io.KnownBytes.{append_known}
 use Rattle.demi_core.specs.Outside.{GrowsByFront}
 use Rattle.demi_spec.specs.Request.{Put}
 use Rattle.demi_spec.specs.Input.{Request_of}
 use Rattle.demi_spec.specs.Reply as reply
-use Rattle.demi_spec.specs.Store.{answer, added}
+use Rattle.demi_spec.specs.Store.{added}
 use Rattle.demi_spec.specs.LogText.{entry}
 use Rattle.demi_spec.specs.Record.{Record, payload, entries_of}
 use Rattle.demi_store.specs.declared.entry.Entry.{Entry}

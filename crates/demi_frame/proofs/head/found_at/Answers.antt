@@ -1,8 +1,6 @@
 use Rattle.demi_spec.proofs.Fronts.{front_takes}
-use Rattle.std.proofs.Common.{false, ◌≡◌, ◌+◌, ◌≤◌, ◌<◌, ℕ, sym, ap, ◌∙◌, length, drop, take, arith, length-drop, None, Some, Option, List}
-use Rattle.std.proofs.lemmas.Bool.Decides.{nat_tests}
-use Rattle.demi_spec.specs.Request.{Put, Get, End, Request}
-use Rattle.demi_spec.specs.Input.{code_of_head, request_of, Whole}
+use Rattle.std.proofs.Common.{false, ◌≡◌, ◌+◌, ◌≤◌, ◌<◌, ℕ, sym, ap, ◌∙◌, length, drop, take, arith, length-drop, None, List}
+use Rattle.demi_spec.specs.Input.{code_of_head, Whole}
 use Rattle.demi_frame.proofs.Fronts.{short, refused_at, more_at, whole_at, value_fits}
 use Rattle.demi_frame.proofs.head.found_at.Goals as goal
 

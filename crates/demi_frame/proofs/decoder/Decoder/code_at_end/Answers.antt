@@ -1,5 +1,4 @@
-use Rattle.std.proofs.Common.{◌≡◌, ◌<◌, ℕ, sym, ap, ◌∙◌, drop, length, None, Some, List, false, true, arith, length-drop, vec_len}
-use Rattle.demi_spec.specs.Input.{front, Ends, Open}
+use Rattle.std.proofs.Common.{◌≡◌, ◌<◌, ℕ, sym, ap, ◌∙◌, drop, length, None, true, arith, length-drop}
 use Rattle.demi_frame.specs.Decoding.{Decoding}
 use Rattle.demi_frame.proofs.Nexts.{finish_none, finish_short}
 use Rattle.demi_frame.proofs.decoder.Decoder.code_at_end.Goals as goal

@@ -1,11 +1,7 @@
 use Rattle.demi_frame.specs.Head.{request_at}
 use Rattle.demi_frame.specs.declared.head.Kind.TheVariants as kind
-use Rattle.std.proofs.Common.{refl, ◌≡◌, ◌+◌, ◌-◌, ℕ, sym, ap, ◌∙◌, drop, take, None, Some, List, false, Option}
-use Rattle.demi_spec.specs.Request.{Put, Get, End}
-use Rattle.demi_spec.specs.Input.{front, Whole}
+use Rattle.std.proofs.Common.{refl, ◌≡◌, sym, ap, ◌∙◌, drop, None}
 use Rattle.demi_frame.specs.Decoding.{Decoding}
-use Rattle.demi_frame.specs.declared.decoder.Step.TheVariants as step
-use Rattle.demi_frame.specs.declared.decoder.Step.{Step}
 use Rattle.demi_frame.proofs.Nexts.{put_next, get_next, end_next, rest_at, key_at, value_at, view_rest, takes_at}
 use Rattle.demi_frame.proofs.decoder.Decoder.take_front.Goals as goal
 

@@ -1,8 +1,6 @@
-use Rattle.std.proofs.Common.{◌≡◌, ◌<◌, ◌+◌, ◌∙◌, ℕ, List, arith, length, ap, sym, vec_len, [], ◌∷◌, ◌++◌, rules, subst}
+use Rattle.std.proofs.Common.{◌≡◌, ◌<◌, ◌+◌, ◌∙◌, ℕ, List, arith, length, ap, vec_len, [], ◌∷◌, ◌++◌, rules, subst}
 use Rattle.std.specs.Prelude.{IsOk, vec_capacity}
 use Rattle.std.specs.Io.KnownBytes.{append_known}
-use Rattle.demi_spec.specs.LogText.{entry}
-use Rattle.demi_spec.specs.Record.{payload}
 use Rattle.demi_core.specs.Outside.{GrowsByFront}
 use Rattle.demi_store.proofs.Growth.{is_grown}
 use Rattle.demi_store.proofs.Plains.{stored_entry, failed_entry}
