@@ -1,17 +1,14 @@
 -- What a status says, from what stands at an outcome.
-use Rattle.std.proofs.Common.{◌≡◌, ◌≢◌, ℕ, ◌+◌, ◌≤◌, List, [], ◌∷◌, ◌++◌, length, take, Option, Some, None, Bool, true, false, refl, ap, sym, ◌∙◌, arith, subst, inl, inr, ◌⊎◌}
-use Rattle.std.specs.Prelude.{if◌then◌else◌, ◌==◌, bytes_eq}
+use Rattle.std.proofs.Common.{◌≡◌, ◌≢◌, ℕ, List, Option, Some, None, refl, ap, sym, ◌∙◌, subst, inl, inr, ◌⊎◌}
+use Rattle.std.specs.Prelude.{if◌then◌else◌, ◌==◌}
 use Rattle.std.proofs.lemmas.Slice.Eq.{bytes_eq-Decides}
-use Rattle.std.specs.Io.KnownBytes.{append_known}
-use Rattle.demi_core.specs.Outside.{Rose}
-use Rattle.demi_core.specs.World.{WorldState, Link, Log, after_links, after_keep_link, after_log, after_keep_log, after_warn, LogRefused}
-use Rattle.demi_spec.specs.LogText.{header}
-use Rattle.demi_cli.specs.Serving.{Whole, Stopped, contents_of}
+use Rattle.demi_core.specs.World.{WorldState, Link, Log, after_log, LogRefused}
+use Rattle.demi_cli.specs.Serving.{contents_of}
 use Rattle.demi_cli.specs.declared.serving.Fault.{Fault}
 use Rattle.demi_cli.specs.declared.serving.Fault.TheVariants as fault
 use Rattle.demi_cli.specs.declared.outcome.Outcome.{Outcome}
 use Rattle.demi_cli.specs.declared.outcome.Outcome.TheVariants as outcome
-use Rattle.demi_cli.specs.Outcome.{status_of, reported, text_of}
+use Rattle.demi_cli.specs.Outcome.{status_of, reported}
 use Rattle.demi_cli.specs.Run.{Gave, A_log, Nothing, KeepsAll, with_link, Ends, Ran, headed, LogOf, LinkOf, NoLink, SameButWarned, Keeps, CannotOpen, BeforeLink, BadLog, EmptyLog, LogFaulted, ReadFaulted, WriteFaulted, outcome_at_end, WholeRun, status_of_fault, Unlinked, StoppedRun, Warned}
 
 -- the outcome of a status

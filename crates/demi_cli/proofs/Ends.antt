@@ -1,9 +1,8 @@
 -- How a run ends, by what its parts say.
-use Rattle.std.proofs.Common.{◌≡◌, ℕ, ◌+◌, ◌≤◌, List, [], ◌∷◌, ◌++◌, length, take, Option, Some, None, refl, ap, sym, ◌∙◌, arith, subst}
+use Rattle.std.proofs.Common.{◌≡◌, ℕ, ◌≤◌, List, Option, Some, None, ap, sym, ◌∙◌, arith, subst}
 use Rattle.std.specs.Prelude.{Result, Ok, Err, IfOk, IfErr}
-use Rattle.std.specs.Io.KnownBytes.{append_known}
 use Rattle.demi_core.specs.Outside.{Rose}
-use Rattle.demi_core.specs.World.{WorldState, Link, Log}
+use Rattle.demi_core.specs.World.{Link, Log}
 use Rattle.demi_spec.specs.Input.{Asked}
 use Rattle.demi_store.specs.Contents.{Contents, grown}
 use Rattle.demi_spec.specs.LogText.{header}
@@ -12,7 +11,7 @@ use Rattle.demi_cli.specs.declared.serving.Fault.{Fault}
 use Rattle.demi_cli.specs.declared.serving.Fault.TheVariants as fault
 use Rattle.demi_cli.specs.declared.outcome.Outcome.{Outcome}
 use Rattle.demi_cli.specs.declared.outcome.Outcome.TheVariants as outcome
-use Rattle.demi_cli.specs.Run.{Gave, A_log, Nothing, AtLink, Ends, headed, outcome_of}
+use Rattle.demi_cli.specs.Run.{A_log, AtLink, Ends, headed, outcome_of}
 
 pub at_link : (end : Result (Option ℕ) Fault) (link kept : Link) (log kept_log : Log) (f0 f1 : ℕ) → IfOk end (λ code. Whole link kept log kept_log code) → IfErr end (λ f. Stopped f link kept log kept_log)
     → AtLink (outcome_of end) (Some (link, kept)) log kept_log f0 f1

@@ -1,18 +1,17 @@
 -- A run that stopped has written a front of what the one-thread store says.
-use Rattle.std.proofs.Common.{◌≡◌, ℕ, Bool, List, [], ◌∷◌, ◌++◌, take, drop, refl, ap, sym, ◌∙◌, flat_map, append_assoc, inl, inr, ◌⊎◌}
-use Rattle.std.proofs.lemmas.List.{append-nil, take-append-drop}
+use Rattle.std.proofs.Common.{◌≡◌, ℕ, List, [], ◌∷◌, ◌++◌, take, drop, ap, sym, ◌∙◌, flat_map, append_assoc, inl, inr, ◌⊎◌}
+use Rattle.std.proofs.lemmas.List.{take-append-drop}
 use Rattle.std.proofs.lemmas.Grind.{flat_map-append}
 use Rattle.demi_core.specs.World.{WorldState, Link, Log}
-use Rattle.demi_spec.specs.Input.{Asked, Request_of, asked}
-use Rattle.demi_spec.specs.Request.{Put}
+use Rattle.demi_spec.specs.Input.{Asked}
 use Rattle.demi_spec.specs.Reply as reply
 use Rattle.demi_spec.specs.Store.{serial}
 use Rattle.demi_spec.proofs.Serial.{serial-append}
 use Rattle.demi_store.specs.Plain.{limit}
 use Rattle.demi_cli.specs.declared.serving.Fault.{Fault}
 use Rattle.demi_cli.specs.declared.serving.Fault.TheVariants as fault
-use Rattle.demi_cli.specs.Serving.{Stopped, Stands, Says, said_to, next_reply}
-use Rattle.demi_cli.specs.Run.{NoLink, LinkOf, Unlinked, StoppedRun, FrontRun}
+use Rattle.demi_cli.specs.Serving.{Stands, Says, said_to, next_reply}
+use Rattle.demi_cli.specs.Run.{NoLink, Unlinked, StoppedRun, FrontRun}
 use Rattle.demi_cli.proofs.SoFars.{said_push}
 
 -- what is said to a front is a front of what is said to all

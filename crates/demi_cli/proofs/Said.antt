@@ -1,5 +1,5 @@
 -- What a reply that was written, or was not, says of what was asked.
-use Rattle.std.proofs.Common.{subst, ◌≡◌, ℕ, ◌+◌, ◌<◌, List, ◌++◌, length, take, Option, ap, sym, ◌∙◌}
+use Rattle.std.proofs.Common.{subst, ◌≡◌, ℕ, ◌+◌, List, ◌++◌, Option, ap, sym, ◌∙◌}
 use Rattle.std.specs.Prelude.{Result, Ok, Err, OnOk, OnErr, IfErr}
 use Rattle.std.specs.Io.KnownBytes.{append_known}
 use Rattle.demi_spec.specs.Input.{Asked}

@@ -1,10 +1,9 @@
 -- How a run over one link stops at a fault.
-use Rattle.std.proofs.Common.{subst, ◌≡◌, ℕ, ◌+◌, ◌≤◌, ◌<◌, List, [], ◌∷◌, ◌++◌, length, take, Option, Some, None, Bool, true, false, refl, ap, sym, ◌∙◌, flat_map, arith, IsTrue}
-use Rattle.std.specs.Prelude.{Result, Ok, Err, OnErr, IfErr, IfOk}
+use Rattle.std.proofs.Common.{subst, ◌≡◌, ℕ, ◌≤◌, List, [], ◌∷◌, ◌++◌, length, take, Option, Bool, false, refl, ap, sym, ◌∙◌, flat_map, arith, IsTrue}
+use Rattle.std.specs.Prelude.{Result, Ok, Err, OnErr, IfErr}
 use Rattle.std.specs.Io.KnownBytes.{append_known}
-use Rattle.std.proofs.lemmas.List.{append-nil}
 use Rattle.demi_spec.specs.Request.{Request, Put, Get, End, GoesOn, spelling}
-use Rattle.demi_spec.specs.Input.{Ending, EndFrame, Refused, Open, Ends, Takes, Parsed, Asked, Request_of, Refused_end, asked, asked_of, front}
+use Rattle.demi_spec.specs.Input.{EndFrame, Refused, Open, Ends, Takes, Parsed, Asked, Request_of, Refused_end, asked, asked_of, front}
 use Rattle.demi_spec.specs.Record.{Record}
 use Rattle.demi_spec.proofs.Parsing.{parse_on, asked_on, asked_is}
 use Rattle.demi_core.specs.Outside.{Rose}
@@ -13,7 +12,7 @@ use Rattle.demi_store.specs.Contents.{Contents, grown}
 use Rattle.demi_store.proofs.Growth.{none_grown}
 use Rattle.demi_cli.specs.declared.serving.Fault.{Fault}
 use Rattle.demi_cli.specs.declared.serving.Fault.TheVariants as fault
-use Rattle.demi_cli.specs.Serving.{Whole, Stopped, Stands, AtEnd, contents_of, said_to, logged_for, records_of, next_reply, next_entry, reply_on, entry_on}
+use Rattle.demi_cli.specs.Serving.{Stopped, Stands, AtEnd, contents_of, said_to, logged_for, records_of, next_reply, next_entry}
 use Rattle.demi_cli.specs.Steps.{SoFar, Broke, SaysFront, asks_of}
 use Rattle.demi_cli.proofs.SoFars.{chained, logged_on, count_asks}
 

@@ -1,5 +1,5 @@
 -- A turn of the run over one link, by what its calls answered.
-use Rattle.std.proofs.Common.{subst, ◌≡◌, ℕ, ◌+◌, ◌≤◌, List, [], ◌∷◌, ◌++◌, length, take, Option, Some, None, Bool, true, false, refl, ap, sym, ◌∙◌, arith, length-append, IsTrue, IfSome}
+use Rattle.std.proofs.Common.{subst, ◌≡◌, ℕ, ◌+◌, ◌≤◌, List, [], ◌∷◌, ◌++◌, length, take, Option, Some, None, Bool, false, ap, sym, ◌∙◌, arith, length-append, IsTrue, IfSome}
 use Rattle.std.specs.Prelude.{Result, Ok, Err, IfOk}
 use Rattle.std.specs.Io.KnownBytes.{prepend_known, append_known}
 use Rattle.std.proofs.lemmas.List.{append-nil}
@@ -14,7 +14,7 @@ use Rattle.demi_frame.specs.declared.decoder.Step.{Step}
 use Rattle.demi_frame.specs.declared.decoder.Step.TheVariants as step
 use Rattle.demi_core.specs.Outside.{EndsAt}
 use Rattle.demi_core.specs.World.{Link, Log}
-use Rattle.demi_store.specs.Contents.{Contents, grown}
+use Rattle.demi_store.specs.Contents.{Contents}
 use Rattle.demi_store.proofs.Growth.{none_grown}
 use Rattle.demi_cli.specs.declared.serving.Fault.{Fault}
 use Rattle.demi_cli.specs.Serving.{Whole, AtEnd, contents_of, reply_on}

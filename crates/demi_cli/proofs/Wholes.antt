@@ -1,5 +1,5 @@
 -- How a run over one link comes to its end.
-use Rattle.std.proofs.Common.{subst, ◌≡◌, ◌≢◌, ℕ, ◌+◌, List, [], ◌∷◌, ◌++◌, length, map, take, Option, Some, None, Bool, true, false, refl, ap, sym, ◌∙◌, flat_map, append_assoc, IsTrue}
+use Rattle.std.proofs.Common.{◌≡◌, ◌≢◌, ℕ, List, [], ◌∷◌, ◌++◌, map, Option, Some, None, Bool, true, false, refl, ap, sym, ◌∙◌, flat_map, append_assoc, IsTrue}
 use Rattle.std.specs.Io.KnownBytes.{append_known}
 use Rattle.std.proofs.lemmas.List.{append-nil, map-append}
 use Rattle.demi_spec.specs.Request.{Request, End, spelling}
@@ -9,9 +9,9 @@ use Rattle.demi_spec.proofs.Parsing.{read_on, asked_is}
 use Rattle.demi_spec.proofs.Fronts.{open_ends, ending_of}
 use Rattle.demi_frame.specs.Decoding as frame
 use Rattle.demi_core.specs.World.{Link, Log}
-use Rattle.demi_store.specs.Contents.{Contents, grown}
+use Rattle.demi_store.specs.Contents.{grown}
 use Rattle.demi_store.proofs.Growth.{append-none}
-use Rattle.demi_cli.specs.Serving.{Whole, AtEnd, contents_of, said_to, logged_for, records_of, code_of, next_reply, reply_on}
+use Rattle.demi_cli.specs.Serving.{Whole, AtEnd, contents_of, said_to, logged_for, code_of, next_reply, reply_on}
 use Rattle.demi_cli.specs.Steps.{SoFar, asks_of}
 use Rattle.demi_cli.proofs.SoFars.{chained, said_push, logged_push, count_asks}
 

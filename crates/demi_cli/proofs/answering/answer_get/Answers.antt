@@ -1,4 +1,4 @@
-use Rattle.std.proofs.Common.{refl, ◌≡◌, ◌∙◌, sym, ap, Some, None, Option, List, ℕ, length, rules}
+use Rattle.std.proofs.Common.{◌∙◌, sym, ap, length}
 use Rattle.demi_spec.specs.Request.{Get}
 use Rattle.demi_spec.specs.Input.{Request_of}
 use Rattle.demi_spec.specs.Reply as reply

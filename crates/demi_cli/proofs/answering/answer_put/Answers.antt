@@ -1,4 +1,3 @@
-use Rattle.std.proofs.Common.{refl, ◌≡◌, []}
 use Rattle.demi_spec.specs.Request.{Put}
 use Rattle.demi_spec.specs.Input.{Request_of}
 use Rattle.demi_spec.specs.Reply as reply

@@ -1,4 +1,4 @@
-use Rattle.std.proofs.Common.{arith, ℕ, length, take, drop, length-drop}
+use Rattle.std.proofs.Common.{arith, ℕ, length-drop}
 use Rattle.std.proofs.lemmas.List.{take_rest, length-take}
 use Rattle.demi_cli.proofs.Writes.{more_written}
 use Rattle.demi_cli.proofs.replying.write_all.Goals as goal

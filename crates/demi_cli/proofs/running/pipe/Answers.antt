@@ -1,6 +1,6 @@
-use Rattle.std.proofs.Common.{◌≡◌, ◌∙◌, ap, sym, subst, [], List, ℕ, Option, Some, None}
-use Rattle.demi_core.specs.World.{Link, Log, WorldState, after_keep_log}
-use Rattle.demi_cli.specs.Run.{Gave, A_log, with_link}
+use Rattle.std.proofs.Common.{◌∙◌, ap, List, ℕ, None}
+use Rattle.demi_core.specs.World.{Log, WorldState, after_keep_log}
+use Rattle.demi_cli.specs.Run.{A_log, with_link}
 use Rattle.demi_cli.proofs.Ends.{ends_headed}
 use Rattle.demi_cli.proofs.running.pipe.Goals as goal
 

@@ -1,4 +1,4 @@
-use Rattle.std.proofs.Common.{◌≡◌, refl, ap, List, ℕ}
+use Rattle.std.proofs.Common.{ap}
 use Rattle.demi_cli.specs.declared.outcome.Outcome.TheVariants as outcome
 use Rattle.demi_core.specs.World.{WorldState}
 use Rattle.demi_cli.proofs.Clauses as clauses

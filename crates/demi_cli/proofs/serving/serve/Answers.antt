@@ -1,6 +1,6 @@
-use Rattle.std.proofs.Common.{◌≡◌, ◌+◌, ◌*◌, ◌≤◌, ◌∙◌, refl, sym, ap, subst, ℕ, List, [], length, take, Option, Some, None, true, false, arith, rules}
+use Rattle.std.proofs.Common.{◌≡◌, ◌∙◌, ap, ℕ, List, Some, None, true, false, arith}
 use Rattle.std.specs.Prelude.{Err}
-use Rattle.demi_spec.specs.Request.{Put, Get, End}
+use Rattle.demi_spec.specs.Request.{Put, Get}
 use Rattle.demi_frame.specs.Decoding as frame
 use Rattle.demi_spec.specs.Input as input
 use Rattle.demi_store.specs.Contents.{contents}

@@ -1,4 +1,4 @@
-use Rattle.std.proofs.Common.{◌≡◌, ◌+◌, ◌-◌, ◌*◌, ◌≤◌, ◌<◌, None, length, max}
+use Rattle.std.proofs.Common.{◌≡◌, ◌+◌, ◌-◌, ◌*◌, ◌≤◌, None, length, max}
 use Rattle.demi_core.specs.Outside.{source_max}
 use Rattle.demi_store.specs.Contents.{contents}
 use Rattle.demi_cli.specs.Steps.{SoFar}
