@@ -8,8 +8,8 @@ use std::marker::Model;
 
 /// Where the first row of a superblock lies: no two superblocks that are there at once share it.
 #[derive(Clone, Copy)]
-pub(crate) struct Place {
-    pub(crate) row: *const u8,
+pub struct Place {
+    pub row: *const u8,
 }
 
 unsafe impl Send for Place {}
@@ -42,6 +42,13 @@ impl Buf {
         ensures { result ≡ self.now.slot }
     {
         self.slot
+    }
+
+    /// Where its superblock lies.
+    pub fn place(&self) -> Place
+        ensures { result.row ≡ self.now.block }
+    {
+        self.place
     }
 
     pub fn class(&self) -> Class

@@ -34,13 +34,13 @@ module _ {B : Type 0} where
   view_missed v k = record v { missed = k ∷ v.missed }
 
   abbrev pub view_freed : View B → View B
-  view_freed v = record v { halves = Neither; ended = v.ended + 1 }
+  view_freed v = record v { halves = Neither; ended = v.ended + 1; held = [] }
 
   abbrev pub view_lent : View B → B → View B
   view_lent v b = record v { halves = Both; lent = Some b; loaned = v.loaned + 1 }
 
   abbrev pub view_released : View B → View B
-  view_released v = record v { halves = Neither; returned = v.returned + 1 }
+  view_released v = record v { halves = Neither; returned = v.returned + 1; held = [] }
 
   abbrev pub view_reclaimed : View B → View B
   view_reclaimed v = record v { halves = Sole }
