@@ -1,5 +1,5 @@
 -- Superblocks that lie in a row of slots.
-use Rattle.std.proofs.Common.{◌≡◌, ◌≢◌, ℕ, zero, suc, ◌+◌, ◌-◌, ◌<◌, ◌≤◌, ◌⊎◌, inl, inr, ⊎_elim, Bool, true, false, cond, ltb, List, [], ◌∷◌, ◌++◌, length, sym, refl, ap, ◌∙◌, subst, arith, length-append}
+use Rattle.std.proofs.Common.{◌≡◌, ◌≢◌, ℕ, zero, suc, ◌+◌, ◌-◌, ◌<◌, ◌≤◌, ◌⊎◌, inl, inr, ⊎_elim, Bool, true, false, cond, ltb, List, [], ◌∷◌, ◌++◌, length, sym, refl, ap, ◌∙◌, subst, arith, length-append, append_assoc}
 use Rattle.std.proofs.lemmas.Bool.{lt-ltb, le-ltb}
 use mathlib.Core.Logic.{dite}
 use mathlib.Core.Option.{some, some-injective, some-ne-none}
@@ -15,7 +15,7 @@ use Rattle.demi_heap_core.specs.declared.shape.Shape.{Shape}
 use Rattle.demi_heap_core.specs.declared.shape.Superblock.{Superblock}
 use Rattle.demi_heap_core.specs.Owner.{total}
 use Rattle.demi_heap.specs.Rule.{class_at, first_of, end_of, lies_in, IsAt}
-use Rattle.demi_heap.specs.Laid.{places, EachLies, IsLaid, HasClasses, IsFront}
+use Rattle.demi_heap.specs.Laid.{places, EachLies, IsLaid, HasClasses, IsFront, IsWholeFrom, IsHome}
 
 module _ {A : Type 0} where
   pub at_shorter : (l : List A) (a : A) (k : ℕ) → k < length l → get_elem? (l ++ a ∷ []) k ≡ get_elem? l k
@@ -84,7 +84,7 @@ lies_more rs row b each here = record {
       (λ ne. let old = each.at k (omega arith) in (old.0, at_longer row (Some b ∷ []) k (Some old.0) old.1, old.2));
 }
 
-in_it : (x y : BufValue) → Some x ≡ Some y → x ≡ y
+pub in_it : (x y : BufValue) → Some x ≡ Some y → x ≡ y
 in_it x y q = ap (out x) q
   where
     out : BufValue → Option BufValue → BufValue
@@ -159,3 +159,17 @@ lay_next h c rs p n m i bufs bufs' x row row' is some_left all last pushed len e
       subst (HasClasses h) (sym pushed) (classes_more h row x classes (ap (λ (z : BufValue). z.class) l.1 ∙ class_within h c (length row) low high)),
       l.1,
     )
+
+-- the value of the slot before the `taken` last ones of a superblock
+pub taken_value : (r : Superblock) (end taken : ℕ) (row row' : List (Option BufValue)) (x : Option BufValue) → r.count ≤ end → taken < r.count → row' ≡ row → IsWholeFrom (end - r.count) row r → get_elem? row' (end - taken - 1) ≡ some x
+    → (b : BufValue) × (x ≡ Some b) × IsAt (Some (r, r.count - (taken + 1))) b
+taken_value r end taken row row' x long more same whole e = let i : ℕ = r.count - (taken + 1) in let h = whole.at i (omega arith) in let index : end - taken - 1 ≡ end - r.count + i = omega arith in
+    (h.0, some-injective x (Some h.0) (sym e ∙ (ap (λ (l : List (Option BufValue)). get_elem? l (end - taken - 1)) same ∙ (ap (λ (k : ℕ). get_elem? row k) index ∙ h.1))), h.2)
+
+-- the last superblock's buffers are at home where its words are 0
+pub whole_block : (words : List ℕ) (row : List (Option BufValue)) (all rs done : List Superblock) (r : Superblock) (end : ℕ) → all ≡ (rs ++ r ∷ []) ++ done → end ≡ total places rs + r.count → IsHome words row all
+    → ((k : ℕ) → end - r.count ≤ k → k < end → get_elem? words k ≡ some 0) → IsWholeFrom (end - r.count) row r
+whole_block words row all rs done r end is len home free = record {
+  at = λ i h. let k : ℕ = end - r.count + i in let b = home.at k (free k (omega arith) (omega arith)) in
+      (b.0, b.1, subst (λ (p : Option (Superblock × ℕ)). IsAt p b.0) (ap (λ (l : List Superblock). lies_in l k) (is ∙ append_assoc rs (r ∷ []) done) ∙ lies_here rs r done k i (omega arith) h) b.2);
+}

@@ -84,7 +84,11 @@ fn carve_class(
 {
     while row.len() < end as usize {
         let left = end - row.len() as u32;
-        let count = if left < BLOCK_LIMIT { left } else { BLOCK_LIMIT };
+        let count = if left < BLOCK_LIMIT {
+            left
+        } else {
+            BLOCK_LIMIT
+        };
         carve_one(alloc, carves, row, counts, class, count)?;
     }
     Ok(())

@@ -30,11 +30,7 @@ fn undo(key: Key, row: Vec<Option<Buf>>) -> NoMemory
 }
 
 /// The table over a row of slots, with the seat that has all passes.
-fn lay(
-    alloc: Global,
-    key: Key,
-    row: Vec<Option<Buf>>,
-) -> Result<(Heap, HeapSeat), NoMemory>
+fn lay(alloc: Global, key: Key, row: Vec<Option<Buf>>) -> Result<(Heap, HeapSeat), NoMemory>
     requires laid { IsLaid key.blocks row.items × HasClasses key row.items }
     requires size { (length row.items ≡ slots key) × (0 < slots key) × (slots key < 65536) × (1 ≤ key.passes) }
     ensures { IfOk result (λ r. (r.0.shape ≡ key) × (r.1.table_id ≡ r.0.table) × (r.1.me ≡ (first_view key, []))) }
