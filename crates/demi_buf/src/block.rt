@@ -57,7 +57,7 @@ impl Block {
     }
 }
 
-fn free(mut bufs: Vec<Buf>) {
+pub(crate) fn free(mut bufs: Vec<Buf>) {
     while let Some(buf) = bufs.pop() {
         buf.lose();
     }

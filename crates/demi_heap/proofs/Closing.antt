@@ -1,5 +1,5 @@
 -- A heap's last state.
-use Rattle.std.proofs.Common.{◌≡◌, ℕ, zero, suc, ◌+◌, ◌*◌, ◌<◌, ◌≤◌, List, [], ◌∷◌, length, get_or, sym, refl, ap, ◌∙◌, subst, arith}
+use Rattle.std.proofs.Common.{◌≡◌, ℕ, zero, suc, ◌<◌, List, [], ◌∷◌, length, get_or, sym, subst, arith}
 use mathlib.Core.Option.{some, some-injective, some-ne-none}
 use lib.ListN.{get_elem?}
 use Rattle.std.specs.Prelude.{Option, Some}
@@ -7,7 +7,6 @@ use Rattle.atomic_table.specs.Table.{Final, Seen}
 use Rattle.demi_buf.specs.Bufs.{BufValue}
 use Rattle.demi_heap_core.specs.declared.shape.Shape.{Shape}
 use Rattle.demi_heap_core.specs.declared.view.View.{View}
-use Rattle.demi_heap_core.specs.Owner.{slots, Owned}
 use Rattle.demi_heap_core.proofs.Schedules.{one_owner}
 use Rattle.demi_heap.specs.Rule.{Fits, HeapRule, shown}
 use Rattle.demi_heap.specs.Laid.{IsHome}

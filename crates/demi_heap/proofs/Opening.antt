@@ -1,5 +1,5 @@
 -- A new heap.
-use Rattle.std.proofs.Common.{◌≡◌, ℕ, ◌+◌, ◌<◌, List, [], ◌∷◌, length, map, replicate, sym, refl, ap, ◌∙◌, subst, arith}
+use Rattle.std.proofs.Common.{◌≡◌, ℕ, List, [], length, replicate, refl, ◌∙◌, arith}
 use mathlib.Core.Option.{some}
 use lib.ListN.{length-map}
 use Rattle.std.specs.Prelude.{Option, Some}

@@ -1,4 +1,4 @@
-use Rattle.std.proofs.Common.{◌≡◌, ◌-◌, ◌≤◌, length, vec_len}
+use Rattle.std.proofs.Common.{◌-◌, ◌≤◌, length, vec_len}
 use Rattle.demi_heap.specs.Rule.{first_of}
 use Rattle.demi_heap.specs.Laid.{IsLaid, HasClasses, counts_shape}
 use Rattle.demi_heap.proofs.carve.carve_class.Given as goal

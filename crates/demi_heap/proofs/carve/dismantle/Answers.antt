@@ -1,4 +1,4 @@
-use Rattle.std.proofs.Common.{rules, List, sym, ap, ◌∙◌, subst}
+use Rattle.std.proofs.Common.{List, subst}
 use Rattle.demi_heap_core.specs.declared.shape.Superblock.{Superblock}
 use Rattle.demi_heap.specs.Laid.{IsLaid}
 use Rattle.demi_heap.proofs.carve.dismantle.Goals as goal

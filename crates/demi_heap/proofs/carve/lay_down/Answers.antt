@@ -1,9 +1,8 @@
-use Rattle.std.proofs.Common.{◌≡◌, ℕ, ◌+◌, ◌-◌, ◌<◌, ◌≤◌, List, [], ◌∷◌, ◌++◌, length, vec_len, sym, refl, ap, ◌∙◌, subst, arith}
+use Rattle.std.proofs.Common.{◌≡◌, ℕ, ◌+◌, ◌-◌, ◌<◌, List, [], ◌∷◌, ◌++◌, length, sym, ap, ◌∙◌, subst, arith}
 use denote.RawPtr.{Ptr}
 use Rattle.demi_buf.specs.Bufs.{BufValue, carved}
 use Rattle.demi_heap_core.specs.declared.shape.Superblock.{Superblock}
-use Rattle.demi_heap_core.specs.Owner.{total}
-use Rattle.demi_heap.specs.Laid.{places, counts_shape, EachLies, IsLaid}
+use Rattle.demi_heap.specs.Laid.{counts_shape, EachLies, IsLaid}
 use Rattle.demi_heap.proofs.Laying.{total_snoc, lies_wider, lay_next}
 use Rattle.demi_heap.proofs.carve.lay_down.Goals as goal
 

@@ -1,4 +1,4 @@
-use Rattle.std.proofs.Common.{◌≡◌, ◌+◌, ◌-◌, ◌≤◌, ◌<◌, [], ◌∷◌, ◌++◌, length, vec_len, vec_capacity}
+use Rattle.std.proofs.Common.{◌≡◌, ◌+◌, ◌-◌, ◌≤◌, [], ◌∷◌, ◌++◌, length, vec_len, vec_capacity}
 use Rattle.demi_buf.specs.Bufs.{carved}
 use Rattle.demi_heap.specs.Laid.{EachLies, HasClasses, counts_shape}
 use Rattle.demi_heap.proofs.carve.lay_down.Given as goal

@@ -1,10 +1,9 @@
-use Rattle.std.proofs.Common.{◌≡◌, ℕ, ◌+◌, ◌-◌, ◌<◌, ◌≤◌, List, [], ◌∷◌, ◌++◌, length, vec_len, sym, refl, ap, ◌∙◌, subst, arith, length-append}
+use Rattle.std.proofs.Common.{◌≡◌, ℕ, ◌+◌, ◌-◌, [], ◌∷◌, ◌++◌, length, sym, ap, ◌∙◌, subst, arith}
 use Rattle.std.specs.Prelude.{Option, Some, None}
 use Rattle.demi_buf.specs.Bufs.{BufValue}
 use Rattle.demi_heap_core.specs.declared.shape.Superblock.{Superblock}
-use Rattle.demi_heap_core.specs.Owner.{total}
 use Rattle.demi_heap.specs.Rule.{IsAt, lies_in}
-use Rattle.demi_heap.specs.Laid.{places, EachLies, IsLaid, IsFront}
+use Rattle.demi_heap.specs.Laid.{EachLies, IsFront}
 use Rattle.demi_heap.proofs.Laying.{total_snoc, lies_less, lies_here, lies_narrower, front_more, front_none, front_whole}
 use Rattle.demi_heap.proofs.carve.take_back.Goals as goal
 

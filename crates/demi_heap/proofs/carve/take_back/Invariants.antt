@@ -1,4 +1,4 @@
-use Rattle.std.proofs.Common.{◌≡◌, ◌+◌, ◌-◌, ◌≤◌, [], ◌∷◌, ◌++◌, length, vec_len, vec_capacity}
+use Rattle.std.proofs.Common.{◌≡◌, ◌+◌, ◌≤◌, [], ◌∷◌, ◌++◌, length, vec_len, vec_capacity}
 use Rattle.demi_heap_core.specs.Owner.{total}
 use Rattle.demi_heap.specs.Laid.{EachLies, IsFront, places}
 use Rattle.demi_heap.proofs.carve.take_back.Given as goal

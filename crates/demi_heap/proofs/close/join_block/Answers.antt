@@ -1,12 +1,10 @@
-use Rattle.std.proofs.Common.{◌≡◌, ℕ, ◌+◌, ◌-◌, ◌<◌, ◌≤◌, List, length, vec_len, sym, refl, ap, ◌∙◌, subst, arith}
-use mathlib.Core.Option.{some, some-injective}
-use lib.ListN.{get_elem?}
-use Rattle.std.specs.Prelude.{Option, Some, None}
+use Rattle.std.proofs.Common.{◌≡◌, ℕ, ◌+◌, ◌-◌, sym, ap, ◌∙◌, subst, arith}
+use Rattle.std.specs.Prelude.{Some}
 use Rattle.std.specs.Slots.{slots_filled, slots_items, slots_len}
 use Rattle.demi_buf.specs.Bufs.{BufValue}
 use Rattle.demi_heap_core.specs.declared.shape.Superblock.{Superblock}
 use Rattle.demi_heap.specs.Rule.{IsAt}
-use Rattle.demi_heap.specs.Laid.{IsFront, IsTakenFrom, IsWholeFrom}
+use Rattle.demi_heap.specs.Laid.{IsFront, IsTakenFrom}
 use Rattle.demi_heap.proofs.Laying.{in_it, front_more, front_whole, taken_value}
 use Rattle.demi_heap.proofs.close.join_block.Goals as goal
 

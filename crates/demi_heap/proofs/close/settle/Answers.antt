@@ -1,12 +1,11 @@
-use Rattle.std.proofs.Common.{rules, ◌≡◌, ℕ, ◌+◌, ◌-◌, ◌<◌, ◌≤◌, List, [], ◌∷◌, ◌++◌, vec_len, sym, refl, ap, ◌∙◌, subst, arith, append_assoc}
-use mathlib.Core.Option.{some}
+use Rattle.std.proofs.Common.{◌≡◌, ℕ, ◌-◌, ◌≤◌, List, [], ◌∷◌, ◌++◌, sym, ap, ◌∙◌, subst, arith, append_assoc}
 use lib.ListN.{get_elem?}
 use Rattle.std.specs.Prelude.{Option}
 use Rattle.std.specs.Slots.{IsFull, slots_filled, slots_items, slots_len}
 use Rattle.demi_buf.specs.Bufs.{BufValue}
 use Rattle.demi_heap_core.specs.declared.shape.Superblock.{Superblock}
 use Rattle.demi_heap_core.specs.Owner.{total}
-use Rattle.demi_heap.specs.Laid.{places, IsHome, IsTakenFrom, IsWholeFrom}
+use Rattle.demi_heap.specs.Laid.{places, IsTakenFrom, IsWholeFrom}
 use Rattle.demi_heap.proofs.Laying.{total_snoc, whole_block}
 use Rattle.demi_heap.proofs.close.settle.Goals as goal
 

@@ -1,5 +1,5 @@
 use Rattle.std.proofs.Common.{◌≡◌, ◌≤◌, List, ◌++◌, vec_len}
-use Rattle.std.specs.Slots.{IsFull, slots_filled, slots_items, slots_len}
+use Rattle.std.specs.Slots.{slots_filled, slots_items, slots_len}
 use Rattle.demi_heap_core.specs.declared.shape.Superblock.{Superblock}
 use Rattle.demi_heap_core.specs.Owner.{total}
 use Rattle.demi_heap.specs.Laid.{IsTakenFrom, places}
