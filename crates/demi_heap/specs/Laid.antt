@@ -1,5 +1,5 @@
 -- How the superblocks of a heap lie in its slots.
-use Rattle.std.specs.Prelude.{◌≡◌, ℕ, ◌+◌, ◌<◌, ◌≤◌, Bool, false, List, [], length, Option, Some, slice_index_or}
+use Rattle.std.specs.Prelude.{◌≡◌, ℕ, ◌+◌, ◌<◌, ◌≤◌, Bool, false, eqb, cond, List, [], length, Option, Some, slice_index_or}
 use mathlib.Core.Option.{some}
 use lib.ListN.{get_elem?}
 use denote.RawPtr.{Ptr}
@@ -8,9 +8,10 @@ use Rattle.demi_buf.specs.Bufs.{BufValue, carved}
 use Rattle.demi_buf.specs.declared.class.Class.{Class}
 use Rattle.demi_heap_core.specs.declared.shape.Shape.{Shape}
 use Rattle.demi_heap_core.specs.declared.shape.Superblock.{Superblock}
-use Rattle.demi_heap_core.specs.Owner.{total}
+use Rattle.demi_heap_core.specs.Owner.{total, OwnerState}
+use Rattle.demi_heap_core.specs.Schedule.{Reached}
 use Rattle.demi_heap.specs.declared.counts.Counts.{Counts}
-use Rattle.demi_heap.specs.Rule.{class_at, lies_in, IsAt}
+use Rattle.demi_heap.specs.Rule.{class_at, lies_in, Fits, IsAt}
 
 -- how many slots a superblock takes up
 abbrev pub places : Superblock → ℕ
@@ -53,3 +54,13 @@ pub record IsHome (words : List ℕ) (row : List (Option BufValue)) (rs : List S
 -- the slots from `first` on have all buffers of this superblock
 pub record IsWholeFrom (first : ℕ) (row : List (Option BufValue)) (r : Superblock) : Type 0 where
   pub at : (i : ℕ) → i < r.count → (b : BufValue) × (get_elem? row (first + i) ≡ some (Some b)) × IsAt (Some (r, i)) b
+
+-- 1 where the word is n, and else 0
+abbrev pub is : ℕ → ℕ → ℕ
+is n word = cond (eqb word n) 1 0
+
+-- the counts are those of a state that the heap reached: of words that are 0, 1, 3 and 2
+pub record CountsWords (h : Shape) (free app lent dev : ℕ) : Type 0 where
+  pub last : OwnerState BufValue
+  pub reached : Reached (Fits h) h last
+  pub counts : (free ≡ total (is 0) last.words) × (app ≡ total (is 1) last.words) × (lent ≡ total (is 3) last.words) × (dev ≡ total (is 2) last.words)

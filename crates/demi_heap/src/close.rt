@@ -5,7 +5,7 @@ ghost use mathlib.Core.Option.{some};
 ghost use lib.ListN.{get_elem?};
 ghost use Rattle.demi_heap_core.specs.declared.view.Halves.TheVariants.{Neither};
 ghost use Rattle.demi_heap_core.specs.Owner.{slots, total, app_bit, device_bit};
-ghost use Rattle.demi_heap.specs.Laid.{IsHome, IsTakenFrom, IsWholeFrom, places};
+ghost use Rattle.demi_heap.specs.Laid.{CountsWords, is, IsHome, IsTakenFrom, IsWholeFrom, places};
 ghost use Rattle.demi_heap.specs.Seen.{claims, ends, loans, returns};
 
 use crate::heap::Heap;
@@ -49,7 +49,8 @@ fn gather(words: &Slots, mut passes: Vec<HeapPass>) -> HeapSeat
 /// The count with one more word.
 fn tally(end: HeapEnd, word: u64) -> HeapEnd
     requires { (word ≤ 3) × (end.free + end.app + end.lent + end.dev < 65536) }
-    ensures { (result.app + result.lent ≡ end.app + end.lent + app_bit word) × (result.lent + result.dev ≡ end.lent + end.dev + device_bit word) × (result.free + result.app + result.lent + result.dev ≡ end.free + end.app + end.lent + end.dev + 1) }
+    ensures one { (result.free ≡ end.free + is 0 word) × (result.app ≡ end.app + is 1 word) × (result.lent ≡ end.lent + is 3 word) × (result.dev ≡ end.dev + is 2 word) }
+    ensures bits { (is 1 word + is 3 word ≡ app_bit word) × (is 3 word + is 2 word ≡ device_bit word) × (is 0 word + is 1 word + is 2 word + is 3 word ≡ 1) }
 {
     let mut end = end;
     match word {
@@ -67,6 +68,7 @@ fn count(closed: &Ended, slots: u32) -> HeapEnd
     ensures apps { result.app + result.lent ≡ total app_bit (take slots (slots_items closed.now.words)) }
     ensures devices { result.lent + result.dev ≡ total device_bit (take slots (slots_items closed.now.words)) }
     ensures all { result.free + result.app + result.lent + result.dev ≡ slots }
+    ensures each { let words = take slots (slots_items closed.now.words) in (result.free ≡ total (is 0) words) × (result.app ≡ total (is 1) words) × (result.lent ≡ total (is 3) words) × (result.dev ≡ total (is 2) words) }
 {
     let mut end = HeapEnd {
         free: 0,
@@ -169,6 +171,7 @@ impl Heap {
     /// taken.
     pub fn close(self, passes: Vec<HeapPass>) -> HeapEnd
         requires { (length passes.items ≡ self.shape.passes) × All (λ p. p.heap ≡ self) passes.items }
+        ensures words { CountsWords self.shape result.free result.app result.lent result.dev }
         ensures claims { sum_by claims passes.items ≡ sum_by ends passes.items + (result.app + result.lent) }
         ensures loans { sum_by loans passes.items ≡ sum_by returns passes.items + (result.lent + result.dev) }
         ensures all { result.free + result.app + result.lent + result.dev ≡ slots self.shape }
