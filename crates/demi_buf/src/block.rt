@@ -1,0 +1,65 @@
+ghost use Rattle.std.specs.Prelude.{◌≡◌, ◌≤◌, vec_len, vec_capacity, IfOk};
+ghost use denote.RawPtr.{Ptr};
+ghost use Rattle.demi_buf.specs.Bufs.{carved, IsSuperblock, size_of};
+
+use crate::buf::{Buf, Place};
+use crate::class::Class;
+use crate::no_memory::NoMemory;
+use std::alloc::Global;
+
+/// A superblock: its buffers are carved at once and join at once.
+pub struct Block;
+
+impl Block {
+    /// `n` buffers, numbered from 0, all of length 0.
+    /// The vector has room for all of them, also once it is emptied.
+    pub fn carve(alloc: Global, class: Class, n: u32) -> Result<Vec<Buf>, NoMemory>
+        requires { (1 ≤ n) × (n ≤ 64) }
+        ensures bufs { IfOk result (λ v. (block : Ptr) × (v.items ≡ carved block class n n)) }
+        ensures room { IfOk result (λ v. (vec_len v ≡ n) × (n ≤ vec_capacity v)) }
+    {
+        let Ok(mut bufs) = Vec::with_capacity(alloc, n as usize) else {
+            return Err(NoMemory);
+        };
+        let Ok(room) = Vec::with_capacity(alloc, class.size() as usize) else {
+            bufs.destroy_empty();
+            return Err(NoMemory);
+        };
+        let place = Place { row: room.as_ptr() };
+        bufs.push_reserved(Buf {
+            place,
+            count: n,
+            slot: 0,
+            class,
+            room,
+        });
+        for slot in 1..n {
+            let Ok(room) = Vec::with_capacity(alloc, class.size() as usize) else {
+                free(bufs);
+                return Err(NoMemory);
+            };
+            bufs.push_reserved(Buf {
+                place,
+                count: n,
+                slot,
+                class,
+                room,
+            });
+        }
+        Ok(bufs)
+    }
+
+    /// Frees the superblock.
+    pub fn join(bufs: Vec<Buf>)
+        requires { IsSuperblock bufs.items }
+    {
+        free(bufs);
+    }
+}
+
+pub(crate) fn free(mut bufs: Vec<Buf>) {
+    while let Some(buf) = bufs.pop() {
+        buf.lose();
+    }
+    bufs.destroy_empty();
+}

@@ -1,0 +1,178 @@
+//! The single steps of the heap's table.
+ghost use Rattle.std.specs.Prelude.{◌≡◌, ℕ, ◌+◌, ◌-◌, ◌<◌, ◌≤◌, List, [], ◌∷◌, MatchOption};
+ghost use Rattle.demi_heap_core.specs.declared.view.Halves.TheVariants.{Neither, Sole, Lent, Device, Both};
+ghost use Rattle.demi_heap_core.specs.Owner.{slots, soles, lents, devices};
+ghost use Rattle.demi_heap_core.specs.Steps.{view_claimed, view_missed, view_freed, view_lent, view_released, view_reclaimed, view_held, view_rejoined, device_alone, lent_alone, one_less, one_pass, with_lent, half_alone, pass_alone, with_pass};
+ghost use Rattle.demi_heap.specs.Rule.{Fits};
+ghost use Rattle.demi_heap.specs.Told.{WasFree};
+ghost use Rattle.demi_heap.specs.Seen.{missed_from, with_missed};
+
+use crate::plays::{
+    Claims, Deals, FreesLent, FreesSole, Lends, Reclaims, Rejoins, Releases, WithLent, WithPass,
+};
+use crate::table::{APP, DEV, HeapSeat, Slots};
+use demi_buf::Buf;
+
+/// Tries to claim the slot for a pass. Where that is won, the seat holds the slot, and the buffer is out.
+pub(crate) fn win(words: &Slots, seat: &mut HeapSeat, slot: usize) -> Option<Buf>
+    requires table { (seat.old.table_id ≡ words.now.table_id) × (words.now.table_id.words ≡ slots words.now.key) × (slot < words.now.table_id.words) }
+    requires pass { (seat.old.me.1 ≡ []) × (seat.old.me.0.halves ≡ Neither) × (1 ≤ seat.old.me.0.passes) }
+    ensures table { (seat.new.table_id ≡ seat.old.table_id) × (seat.new.id ≡ seat.old.id) }
+    ensures won { MatchOption result ((seat.new.me.0 ≡ view_missed seat.old.me.0 slot) × (seat.new.me.1 ≡ [])) (λ b. (seat.new.me.0 ≡ view_claimed seat.old.me.0 slot) × (seat.new.me.1 ≡ (slot, None) ∷ []) × Fits seat.old.me.0.shape slot b × WasFree seat.old.me.0 slot) }
+{
+    if words.compare_exchange::<Claims>(seat, slot, 0, APP) != 0 {
+        return None;
+    }
+    words.exchange(seat, slot, None)
+}
+
+/// Tries the slots from `first` on, below `end`.
+pub(crate) fn win_one(
+    words: &Slots,
+    seat: &mut HeapSeat,
+    first: u32,
+    end: u32,
+) -> Option<(u32, Buf)>
+    requires table { (seat.old.table_id ≡ words.now.table_id) × (words.now.table_id.words ≡ slots words.now.key) × (end ≤ words.now.table_id.words) × (first ≤ end) }
+    requires pass { (seat.old.me.1 ≡ []) × (seat.old.me.0.halves ≡ Neither) × (1 ≤ seat.old.me.0.passes) }
+    ensures table { (seat.new.table_id ≡ seat.old.table_id) × (seat.new.id ≡ seat.old.id) }
+    ensures won { MatchOption result (seat.new.me ≡ (with_missed seat.old.me.0 (missed_from first (end - first) seat.old.me.0.missed), [])) (λ r. (first ≤ r.0) × (r.0 < end) × (seat.new.me ≡ (view_claimed (with_missed seat.old.me.0 (missed_from first (r.0 - first) seat.old.me.0.missed)) r.0, (r.0, None) ∷ [])) × Fits seat.old.me.0.shape r.0 r.1 × WasFree (with_missed seat.old.me.0 (missed_from first (r.0 - first) seat.old.me.0.missed)) r.0) }
+{
+    for slot in first..end {
+        if let Some(buf) = win(words, seat, slot as usize) {
+            return Some((slot, buf));
+        }
+    }
+    None
+}
+
+/// Puts the buffer of a sole half home and frees the slot, once the half's seat has taken in the pass.
+pub(crate) fn put_home(words: &Slots, seat: &mut HeapSeat, slot: usize, buf: Buf)
+    requires table { (seat.old.table_id ≡ words.now.table_id) × (words.now.table_id.words ≡ slots words.now.key) × (slot < words.now.table_id.words) }
+    requires half { (seat.old.me.1 ≡ (slot, None) ∷ []) × (seat.old.me.0.halves ≡ Sole) × (seat.old.me.0.slot ≡ slot) × (1 ≤ seat.old.me.0.passes) }
+    requires buffer { Fits seat.old.me.0.shape slot buf }
+    ensures table { (seat.new.table_id ≡ seat.old.table_id) × (seat.new.id ≡ seat.old.id) }
+    ensures freed { (seat.new.me.0 ≡ view_freed seat.old.me.0) × (seat.new.me.1 ≡ []) }
+{
+    match words.exchange(seat, slot, Some(buf)) {
+        None => {}
+        Some(_) => unreachable!(),
+    }
+    words.fetch_and::<FreesSole>(seat, slot, !APP);
+}
+
+/// Lends the buffer of a sole half. The seat then has both halves.
+pub(crate) fn lend_out(words: &Slots, seat: &mut HeapSeat, slot: usize, buf: Buf) -> Buf
+    requires table { (seat.old.table_id ≡ words.now.table_id) × (slot < words.now.table_id.words) }
+    requires half { (seat.old.me.1 ≡ (slot, None) ∷ []) × (seat.old.me.0.halves ≡ Sole) × (seat.old.me.0.slot ≡ slot) × (1 ≤ seat.old.me.0.passes) }
+    requires buffer { Fits seat.old.me.0.shape slot buf }
+    ensures table { (seat.new.table_id ≡ seat.old.table_id) × (seat.new.id ≡ seat.old.id) }
+    ensures lent { (seat.new.me ≡ (view_lent seat.old.me.0 buf, (slot, None) ∷ [])) × (result ≡ buf) }
+{
+    match words.exchange(seat, slot, Some(buf)) {
+        None => {}
+        Some(_) => unreachable!(),
+    }
+    words.fetch_or::<Lends>(seat, slot, DEV);
+    words.exchange(seat, slot, None).unwrap()
+}
+
+/// Frees a lent half.
+pub(crate) fn let_go(words: &Slots, seat: &mut HeapSeat, slot: usize)
+    requires table { (seat.old.table_id ≡ words.now.table_id) × (slot < words.now.table_id.words) }
+    requires half { (seat.old.me.0.halves ≡ Lent) × (seat.old.me.0.slot ≡ slot) × (1 ≤ seat.old.me.0.passes) }
+    ensures table { (seat.new.table_id ≡ seat.old.table_id) × (seat.new.id ≡ seat.old.id) }
+    ensures freed { (seat.new.me.0 ≡ view_freed seat.old.me.0) × (seat.new.me.1 ≡ seat.old.me.1) }
+{
+    words.fetch_and::<FreesLent>(seat, slot, !APP);
+}
+
+/// Puts the buffer of a device half home, and ends the half.
+pub(crate) fn put_back(words: &Slots, seat: &mut HeapSeat, slot: usize, buf: Buf)
+    requires table { (seat.old.table_id ≡ words.now.table_id) × (slot < words.now.table_id.words) }
+    requires half { (seat.old.me.1 ≡ (slot, None) ∷ []) × (seat.old.me.0.halves ≡ Device) × (seat.old.me.0.slot ≡ slot) × (1 ≤ seat.old.me.0.passes) }
+    requires buffer { Fits seat.old.me.0.shape slot buf × (seat.old.me.0.lent ≡ Some buf) }
+    ensures table { (seat.new.table_id ≡ seat.old.table_id) × (seat.new.id ≡ seat.old.id) }
+    ensures freed { (seat.new.me.0 ≡ view_released seat.old.me.0) × (seat.new.me.1 ≡ []) }
+{
+    match words.exchange(seat, slot, Some(buf)) {
+        None => {}
+        Some(_) => unreachable!(),
+    }
+    words.fetch_and::<Releases>(seat, slot, !DEV);
+}
+
+/// Looks whether the device half has ended, and then makes the lent half sole.
+pub(crate) fn look(words: &Slots, seat: &mut HeapSeat, slot: usize) -> Option<Buf>
+    requires table { (seat.old.table_id ≡ words.now.table_id) × (slot < words.now.table_id.words) }
+    requires half { (seat.old.me.1 ≡ []) × (seat.old.me.0.halves ≡ Lent) × (seat.old.me.0.slot ≡ slot) }
+    ensures table { (seat.new.table_id ≡ seat.old.table_id) × (seat.new.id ≡ seat.old.id) }
+    ensures sole { MatchOption result ((seat.new.me.0 ≡ view_held seat.old.me.0 slot) × (seat.new.me.1 ≡ [])) (λ b. (seat.new.me.0 ≡ view_reclaimed seat.old.me.0) × (seat.new.me.1 ≡ (slot, None) ∷ []) × (seat.old.me.0.lent ≡ Some b)) }
+{
+    if words.load::<Reclaims>(seat, slot) >= DEV {
+        return None;
+    }
+    words.exchange(seat, slot, None)
+}
+
+/// Ends the device half, once its seat has taken in the lent half and the pass.
+pub(crate) fn take_over(words: &Slots, seat: &mut HeapSeat, slot: usize)
+    requires table { (seat.old.table_id ≡ words.now.table_id) × (slot < words.now.table_id.words) }
+    requires half { (seat.old.me.0.halves ≡ Both) × (seat.old.me.0.slot ≡ slot) × (1 ≤ seat.old.me.0.passes) }
+    ensures table { (seat.new.table_id ≡ seat.old.table_id) × (seat.new.id ≡ seat.old.id) }
+    ensures sole { (seat.new.me.0 ≡ view_rejoined seat.old.me.0) × (seat.new.me.1 ≡ seat.old.me.1) }
+{
+    words.fetch_and::<Rejoins>(seat, slot, !DEV);
+}
+
+/// The pass goes off to a seat of its own.
+pub(crate) fn part_pass(words: &Slots, seat: &mut HeapSeat) -> HeapSeat
+    requires { (seat.old.table_id ≡ words.now.table_id) × (0 < words.now.table_id.words) }
+    ensures table { (seat.new.table_id ≡ seat.old.table_id) × (seat.new.id ≡ seat.old.id) × (result.table_id ≡ seat.old.table_id) }
+    ensures half { seat.new.me ≡ (half_alone seat.old.me.0, seat.old.me.1) }
+    ensures pass { result.me ≡ (pass_alone seat.old.me.0, []) }
+{
+    words.split_seat::<WithPass>(seat)
+}
+
+/// The half takes in a pass.
+pub(crate) fn take_pass(words: &Slots, seat: &mut HeapSeat, pass: HeapSeat)
+    requires table { (seat.old.table_id ≡ words.now.table_id) × (pass.table_id ≡ words.now.table_id) × (0 < words.now.table_id.words) }
+    requires half { 1 ≤ seat.old.me.0.passes + (soles seat.old.me.0.halves + lents seat.old.me.0.halves + devices seat.old.me.0.halves) }
+    requires pass { (pass.me.1 ≡ []) × (pass.me.0.halves ≡ Neither) }
+    ensures table { (seat.new.table_id ≡ seat.old.table_id) × (seat.new.id ≡ seat.old.id) }
+    ensures both { seat.new.me ≡ (with_pass seat.old.me.0 pass.me.0, seat.old.me.1) }
+{
+    words.join_seat::<WithPass>(seat, pass);
+}
+
+/// The lent half goes off to a seat of its own.
+pub(crate) fn part_lent(words: &Slots, seat: &mut HeapSeat) -> HeapSeat
+    requires { (seat.old.table_id ≡ words.now.table_id) × (0 < words.now.table_id.words) × (seat.old.me.0.halves ≡ Both) }
+    ensures table { (seat.new.table_id ≡ seat.old.table_id) × (seat.new.id ≡ seat.old.id) × (result.table_id ≡ seat.old.table_id) }
+    ensures device { seat.new.me ≡ (device_alone seat.old.me.0, seat.old.me.1) }
+    ensures lent { result.me ≡ (lent_alone seat.old.me.0, []) }
+{
+    words.split_seat::<WithLent>(seat)
+}
+
+/// The seat of a device half takes in the lent half of its slot.
+pub(crate) fn take_lent(words: &Slots, seat: &mut HeapSeat, lent: HeapSeat)
+    requires table { (seat.old.table_id ≡ words.now.table_id) × (lent.table_id ≡ words.now.table_id) × (0 < words.now.table_id.words) }
+    requires device { seat.old.me.0.halves ≡ Device }
+    requires lent { (lent.me.1 ≡ []) × (lent.me.0.halves ≡ Lent) × (lent.me.0.slot ≡ seat.old.me.0.slot) × (lent.me.0.passes ≡ 0) }
+    ensures table { (seat.new.table_id ≡ seat.old.table_id) × (seat.new.id ≡ seat.old.id) }
+    ensures both { seat.new.me ≡ (with_lent seat.old.me.0, seat.old.me.1) }
+{
+    words.join_seat::<WithLent>(seat, lent);
+}
+
+/// One pass of several goes off to a seat of its own.
+pub(crate) fn deal_one(words: &Slots, seat: &mut HeapSeat) -> HeapSeat
+    requires { (seat.old.table_id ≡ words.now.table_id) × (0 < words.now.table_id.words) × (seat.old.me.0.halves ≡ Neither) × (2 ≤ seat.old.me.0.passes) }
+    ensures table { (seat.new.table_id ≡ seat.old.table_id) × (result.table_id ≡ seat.old.table_id) }
+    ensures left { seat.new.me ≡ (one_less seat.old.me.0, seat.old.me.1) }
+    ensures one { result.me ≡ (one_pass seat.old.me.0, []) }
+{
+    words.split_seat::<Deals>(seat)
+}
