@@ -1,0 +1,46 @@
+-- What a contract sees of an array.
+use Rattle.std.specs.Prelude.{◌≡◌, ℕ, ◌+◌, ◌≤◌, Bool, List, [], ◌∷◌, ◌++◌, length, take, drop, if◌then◌else◌, nat_le}
+use Rattle.demi_buf.specs.declared.class.Class.{Class}
+use Rattle.demi_buf.specs.declared.class.Class.TheVariants.{Small, Page, Large}
+use Rattle.demi_heap.specs.Seen.{HeapId, HalfValue, PassValue, half_held}
+
+-- an array that was lent: its segments in order, and how many of them are taken back already
+pub record LentValue : Type 0 where
+  pub segments : List HalfValue
+  pub back : ℕ
+
+-- all segments are of this heap
+abbrev pub AreOf : HeapId → List HalfValue → Type 0
+AreOf h [] = Unit {0}
+AreOf h (a ∷ xs) = (a.heap ≡ h) × AreOf h xs
+
+-- the same slots in order
+abbrev pub SameSlots : List HalfValue → List HalfValue → Type 0
+SameSlots [] [] = Unit {0}
+SameSlots [] (b ∷ bs) = ⊥
+SameSlots (a ∷ xs) [] = ⊥
+SameSlots (a ∷ xs) (b ∷ bs) = (a.slot ≡ b.slot) × SameSlots xs bs
+
+-- the first segment was found held by the device
+abbrev pub first_held : List HalfValue → List HalfValue
+first_held [] = []
+first_held (a ∷ xs) = half_held a ∷ xs
+
+-- how many bytes all segments have
+abbrev pub byte_count : List HalfValue → ℕ
+byte_count [] = 0
+byte_count (a ∷ xs) = length a.bytes + byte_count xs
+
+-- the least class that holds n bytes
+abbrev pub class_for : ℕ → Class
+class_for n = if nat_le n 256 then Small else (if nat_le n 4096 then Page else Large)
+
+-- what the numbers of a pass become by n calls
+abbrev pub loaned_by : PassValue → ℕ → PassValue
+loaned_by p n = record p { loaned = p.loaned + n }
+
+abbrev pub ended_by : PassValue → ℕ → PassValue
+ended_by p n = record p { ended = p.ended + n }
+
+abbrev pub returned_by : PassValue → ℕ → PassValue
+returned_by p n = record p { returned = p.returned + n }

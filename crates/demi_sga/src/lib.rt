@@ -1,0 +1,6 @@
+//! Scatter-gather arrays.
+#![tactic(auto)]
+
+mod row;
+
+pub use row::Row;
