@@ -1,5 +1,5 @@
 -- What a contract sees of an array.
-use Rattle.std.specs.Prelude.{◌≡◌, ℕ, ◌+◌, ◌≤◌, Bool, List, [], ◌∷◌, ◌++◌, length, take, drop, if◌then◌else◌, nat_le}
+use Rattle.std.specs.Prelude.{replicate, ◌-◌, nat_lt, ◌≡◌, ℕ, ◌+◌, ◌≤◌, Bool, List, [], ◌∷◌, ◌++◌, length, take, drop, if◌then◌else◌, nat_le}
 use Rattle.demi_buf.specs.declared.class.Class.{Class}
 use Rattle.demi_buf.specs.declared.class.Class.TheVariants.{Small, Page, Large}
 use Rattle.demi_heap.specs.Seen.{HeapId, HalfValue, PassValue, half_held}
@@ -44,3 +44,12 @@ ended_by p n = record p { ended = p.ended + n }
 
 abbrev pub returned_by : PassValue → ℕ → PassValue
 returned_by p n = record p { returned = p.returned + n }
+
+-- the bytes from a place on, to the end of their segment, at most so many
+abbrev pub part_of : List HalfValue → ℕ → ℕ → List ℕ
+part_of [] from most = []
+part_of (a ∷ xs) from most = if nat_lt from (length a.bytes) then take most (drop from a.bytes) else part_of xs (from - length a.bytes) most
+
+-- the half with its length set
+abbrev pub sized : HalfValue → ℕ → HalfValue
+sized a n = record a { bytes = take n a.bytes ++ replicate (n - length a.bytes) 0 }

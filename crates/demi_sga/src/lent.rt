@@ -1,0 +1,63 @@
+ghost use Rattle.std.specs.Prelude.{◌≡◌, ◌+◌, ◌≤◌, ◌++◌, length};
+ghost use Rattle.demi_sga.specs.Rows.{items};
+
+use crate::row::Row;
+use demi_heap::{AppBuf, Lent};
+use std::marker::Model;
+
+/// A lent array of 1 to 8 segments, of which the first may be taken back already. It must be spent: by a call of this
+/// crate, or by `lose`.
+pub struct LentSga {
+    pub(crate) back: Row<AppBuf>,
+    pub(crate) rest: Row<Lent>,
+}
+
+impl Model for LentSga {
+    ghost use Rattle.std.specs.Prelude.{◌+◌, ◌≤◌, ◌++◌, length};
+    ghost use Rattle.demi_sga.specs.Arrays.{LentValue};
+    ghost use Rattle.demi_sga.specs.Rows.{items};
+
+    ghost Value = { LentValue };
+
+    ghost view = { λ s. record { segments = items s.back ++ items s.rest; back = length (items s.back) } };
+
+    ghost invariant = { λ s. (1 ≤ length (items s.back) + length (items s.rest)) × (length (items s.back) + length (items s.rest) ≤ 8) };
+}
+
+/// The device still has a segment. The array comes back, and keeps the segments that were taken back.
+pub struct StillHeld(pub LentSga);
+
+impl LentSga {
+    pub fn segments(&self) -> u32
+        ensures { result ≡ length self.now.segments }
+    {
+        (self.back.len() + self.rest.len()) as u32
+    }
+
+    /// Gives it up. Its slots stay owned for good.
+    pub fn lose(self) {
+        let LentSga { back, rest } = self;
+        lose_back(back);
+        lose_rest(rest);
+    }
+}
+
+fn lose_back(row: Row<AppBuf>) {
+    if row.len() == 0 {
+        row.end();
+        return;
+    }
+    let (first, rest) = row.pop();
+    first.lose();
+    lose_back(rest);
+}
+
+fn lose_rest(row: Row<Lent>) {
+    if row.len() == 0 {
+        row.end();
+        return;
+    }
+    let (first, rest) = row.pop();
+    first.lose();
+    lose_rest(rest);
+}
