@@ -1,8 +1,8 @@
 -- What a contract sees of an array.
-use Rattle.std.specs.Prelude.{replicate, ◌-◌, nat_lt, ◌≡◌, ℕ, ◌+◌, ◌≤◌, Bool, List, [], ◌∷◌, ◌++◌, length, take, drop, if◌then◌else◌, nat_le}
+use Rattle.std.specs.Prelude.{◌||◌, ◌==◌, replicate, ◌-◌, nat_lt, ◌≡◌, ℕ, ◌+◌, ◌≤◌, Bool, List, [], ◌∷◌, ◌++◌, length, take, drop, if◌then◌else◌, nat_le}
 use Rattle.demi_buf.specs.declared.class.Class.{Class}
 use Rattle.demi_buf.specs.declared.class.Class.TheVariants.{Small, Page, Large}
-use Rattle.demi_heap.specs.Seen.{HeapId, HalfValue, PassValue, half_held}
+use Rattle.demi_heap.specs.Seen.{HeapId, HalfValue, PassValue, half_held, new_half, half_with}
 
 -- an array that was lent: its segments in order, and how many of them are taken back already
 pub record LentValue : Type 0 where
@@ -53,3 +53,15 @@ part_of (a ∷ xs) from most = if nat_lt from (length a.bytes) then take most (d
 -- the half with its length set
 abbrev pub sized : HalfValue → ℕ → HalfValue
 sized a n = record a { bytes = take n a.bytes ++ replicate (n - length a.bytes) 0 }
+
+-- the k-th segment was found held by the device
+abbrev pub held_at : ℕ → List HalfValue → List HalfValue
+held_at k xs = take k xs ++ first_held (drop k xs)
+
+-- no segment holds so many bytes, or they are none
+abbrev pub bad_size : ℕ → Bool
+bad_size n = (n == 0) || nat_lt 65536 n
+
+-- a new half with n bytes, all 0
+abbrev pub zeroed : HeapId → Class → ℕ → ℕ → HalfValue
+zeroed h c slot n = half_with (new_half h c slot) (replicate n 0)

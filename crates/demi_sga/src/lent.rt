@@ -1,4 +1,5 @@
 ghost use Rattle.std.specs.Prelude.{◌≡◌, ◌+◌, ◌≤◌, ◌++◌, length};
+ghost use Rattle.demi_sga.specs.Arrays.{byte_count};
 ghost use Rattle.demi_sga.specs.Rows.{items};
 
 use crate::row::Row;
@@ -10,18 +11,19 @@ use std::marker::Model;
 pub struct LentSga {
     pub(crate) back: Row<AppBuf>,
     pub(crate) rest: Row<Lent>,
+    pub(crate) len: u32,
 }
 
 impl Model for LentSga {
-    ghost use Rattle.std.specs.Prelude.{◌+◌, ◌≤◌, ◌++◌, length};
-    ghost use Rattle.demi_sga.specs.Arrays.{LentValue};
+    ghost use Rattle.std.specs.Prelude.{◌≡◌, ◌+◌, ◌≤◌, ◌++◌, length};
+    ghost use Rattle.demi_sga.specs.Arrays.{LentValue, byte_count};
     ghost use Rattle.demi_sga.specs.Rows.{items};
 
     ghost Value = { LentValue };
 
     ghost view = { λ s. record { segments = items s.back ++ items s.rest; back = length (items s.back) } };
 
-    ghost invariant = { λ s. (1 ≤ length (items s.back) + length (items s.rest)) × (length (items s.back) + length (items s.rest) ≤ 8) };
+    ghost invariant = { λ s. (1 ≤ length (items s.back) + length (items s.rest)) × (length (items s.back) + length (items s.rest) ≤ 8) × (s.len ≡ byte_count (items s.back ++ items s.rest)) };
 }
 
 /// The device still has a segment. The array comes back, and keeps the segments that were taken back.
@@ -34,9 +36,16 @@ impl LentSga {
         (self.back.len() + self.rest.len()) as u32
     }
 
+    /// How many bytes all segments have.
+    pub fn len(&self) -> u32
+        ensures { result ≡ byte_count self.now.segments }
+    {
+        self.len
+    }
+
     /// Gives it up. Its slots stay owned for good.
     pub fn lose(self) {
-        let LentSga { back, rest } = self;
+        let LentSga { back, rest, len: _ } = self;
         lose_back(back);
         lose_rest(rest);
     }

@@ -14,4 +14,4 @@ mod row;
 pub use app::AppSga;
 pub use dev::DevSga;
 pub use lent::{LentSga, StillHeld};
-pub use moves::{free_app, lend, release};
+pub use moves::{SgaRefusal, free_app, free_lent, lend, reclaim, rejoin, release, sgaalloc};
