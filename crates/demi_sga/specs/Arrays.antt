@@ -1,5 +1,5 @@
 -- What a contract sees of an array.
-use Rattle.std.specs.Prelude.{◌||◌, ◌==◌, replicate, ◌-◌, nat_lt, ◌≡◌, ℕ, ◌+◌, ◌≤◌, Bool, List, [], ◌∷◌, ◌++◌, length, take, drop, if◌then◌else◌, nat_le}
+use Rattle.std.specs.Prelude.{cond, ltb, ◌||◌, ◌==◌, replicate, ◌-◌, nat_lt, ◌≡◌, ℕ, ◌+◌, ◌≤◌, Bool, List, [], ◌∷◌, ◌++◌, length, take, drop, if◌then◌else◌, nat_le}
 use Rattle.demi_buf.specs.declared.class.Class.{Class}
 use Rattle.demi_buf.specs.declared.class.Class.TheVariants.{Small, Page, Large}
 use Rattle.demi_heap.specs.Seen.{HeapId, HalfValue, PassValue, half_held, new_half, half_with}
@@ -48,7 +48,7 @@ returned_by p n = record p { returned = p.returned + n }
 -- the bytes from a place on, to the end of their segment, at most so many
 abbrev pub part_of : List HalfValue → ℕ → ℕ → List ℕ
 part_of [] from most = []
-part_of (a ∷ xs) from most = if nat_lt from (length a.bytes) then take most (drop from a.bytes) else part_of xs (from - length a.bytes) most
+part_of (a ∷ xs) from most = cond (ltb from (length a.bytes)) (take most (drop from a.bytes)) (part_of xs (from - length a.bytes) most)
 
 -- the half with its length set
 abbrev pub sized : HalfValue → ℕ → HalfValue

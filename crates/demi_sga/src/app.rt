@@ -137,11 +137,8 @@ fn set_row_len(row: Row<AppBuf>, i: usize, n: u32) -> Row<AppBuf>
     ensures row { (a : HalfValue) → get_elem? (items row) i ≡ some a → items result ≡ slice_set (items row) i (sized a n) }
     ensures len { length (items result) ≡ length (items row) }
 {
-    let (mut first, rest) = row.pop();
-    if i == 0 {
-        first.set_len(n);
-        rest.push(first)
-    } else {
-        set_row_len(rest, i - 1, n).push(first)
-    }
+    let (front, back) = row.split(i);
+    let (mut buf, rest) = back.pop();
+    buf.set_len(n);
+    front.append(rest.push(buf))
 }
