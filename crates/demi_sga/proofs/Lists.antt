@@ -1,12 +1,12 @@
 -- Lists of halves.
-use Rattle.std.proofs.Common.{◌≡◌, ℕ, zero, suc, ◌+◌, ◌-◌, ◌<◌, ◌≤◌, List, [], ◌∷◌, ◌++◌, length, take, drop, Bool, cond, ltb, set, sym, refl, ap, ◌∙◌, subst, arith, append_assoc, length-append, length-drop, take_all}
+use Rattle.std.proofs.Common.{◌≡◌, ℕ, zero, suc, ◌+◌, ◌-◌, ◌<◌, ◌≤◌, List, [], ◌∷◌, ◌++◌, length, take, drop, Bool, cond, set, sym, refl, ap, ◌∙◌, subst, arith, length-append, take_all}
 use Rattle.std.proofs.lemmas.Bool.{lt-ltb, le-ltb}
 use mathlib.Core.Option.{some, some-injective, some-ne-none}
 use lib.ListN.{get_elem?}
 use Rattle.demi_buf.specs.Bufs.{size_of}
 use Rattle.demi_buf.specs.declared.class.Class.{Class}
 use Rattle.demi_buf.specs.declared.class.Class.TheVariants.{Small, Page, Large}
-use Rattle.demi_heap.specs.Seen.{HeapId, HalfValue, half_held}
+use Rattle.demi_heap.specs.Seen.{HeapId, HalfValue}
 use Rattle.demi_sga.specs.Arrays.{AreOf, SameSlots, byte_count, part_of, first_held, held_at}
 
 pub size_limit : (c : Class) → size_of c ≤ 65536
@@ -120,3 +120,14 @@ module _ (back more left rest : List HalfValue) (took : more ≡ take (length mo
 
   pub back_all : left ≡ [] → back ++ more ≡ back ++ rest
   back_all none = let l = ap length none in let n = back_length in let long : length rest ≤ length more = omega arith in λ i. back ++ (took ∙ take_all (length more) rest long) i
+
+pub append_of : (h : HeapId) (xs ys : List HalfValue) → AreOf h xs → AreOf h ys → AreOf h (xs ++ ys)
+append_of h [] ys o p = p
+append_of h (x ∷ xs) ys o p = (o.0, append_of h xs ys o.1 p)
+
+pub held_of : (h : HeapId) (k : ℕ) (xs : List HalfValue) → AreOf h xs → AreOf h (held_at k xs)
+held_of h k xs o = let p = of_parts h k xs o in append_of h (take k xs) (first_held (drop k xs)) p.0 (first (drop k xs) p.1)
+  where
+    first : (ys : List HalfValue) → AreOf h ys → AreOf h (first_held ys)
+    first [] q = q
+    first (y ∷ ys) q = q

@@ -1,5 +1,5 @@
 -- What a contract sees of an array.
-use Rattle.std.specs.Prelude.{cond, ltb, ◌||◌, ◌==◌, replicate, ◌-◌, nat_lt, ◌≡◌, ℕ, ◌+◌, ◌≤◌, Bool, List, [], ◌∷◌, ◌++◌, length, take, drop, if◌then◌else◌, nat_le}
+use Rattle.std.specs.Prelude.{cond, ltb, ◌||◌, ◌==◌, replicate, ◌-◌, nat_lt, ◌≡◌, ℕ, ◌+◌, Bool, List, [], ◌∷◌, ◌++◌, length, take, drop, if◌then◌else◌, nat_le}
 use Rattle.demi_buf.specs.declared.class.Class.{Class}
 use Rattle.demi_buf.specs.declared.class.Class.TheVariants.{Small, Page, Large}
 use Rattle.demi_heap.specs.Seen.{HeapId, HalfValue, PassValue, half_held, new_half, half_with}

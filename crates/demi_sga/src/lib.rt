@@ -10,6 +10,8 @@ mod dev;
 mod lent;
 mod moves;
 mod row;
+#[cfg(test)]
+mod tests;
 
 pub use app::AppSga;
 pub use dev::DevSga;

@@ -143,6 +143,7 @@ pub fn reclaim(heap: &Heap, pass: &mut HeapPass, half: LentSga) -> Result<AppSga
     ensures pass { pass.new ≡ pass.old }
     ensures ok { IfOk result (λ s. s ≡ half.segments) }
     ensures err { IfErr result (λ e. (half.back ≤ e.0.back) × (e.0.back < length half.segments) × (e.0.segments ≡ held_at e.0.back half.segments)) }
+    ensures heap { IfErr result (λ e. AreOf heap.now e.0.segments) }
 {
     let LentSga { back, rest, len } = half;
     let (more, left) = reclaim_row(heap, pass, rest);

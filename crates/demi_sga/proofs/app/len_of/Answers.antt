@@ -1,4 +1,4 @@
-use Rattle.std.proofs.Common.{arith, take_all, le_of_eq, ap, ◌∙◌, refl}
+use Rattle.std.proofs.Common.{arith}
 use Rattle.demi_sga.specs.Rows.{items}
 use Rattle.demi_sga.proofs.Lists.{bytes_more}
 use Rattle.demi_sga.proofs.app.len_of.Goals as goal

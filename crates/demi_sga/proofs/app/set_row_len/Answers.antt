@@ -1,6 +1,5 @@
-use Rattle.std.proofs.Common.{◌≡◌, ℕ, ◌+◌, ◌-◌, ◌≤◌, List, ◌∷◌, ◌++◌, length, take, drop, replicate, set, sym, ap, ◌∙◌, subst, arith, length-append}
-use mathlib.Core.Option.{some, some-injective}
-use lib.ListN.{get_elem?}
+use Rattle.std.proofs.Common.{◌≡◌, ◌++◌, length, take, drop, set, sym, ap, ◌∙◌, arith, length-append}
+use mathlib.Core.Option.{some-injective}
 use Rattle.demi_heap.specs.Seen.{HalfValue}
 use Rattle.demi_sga.specs.Arrays.{sized}
 use Rattle.demi_sga.specs.Rows.{items}

@@ -1,4 +1,4 @@
-use Rattle.std.proofs.Common.{◌≡◌, ℕ, ◌+◌, ◌-◌, ◌<◌, ◌≤◌, List, length, take, drop, sym, ap, ◌∙◌, arith, length-drop}
+use Rattle.std.proofs.Common.{◌≡◌, ℕ, ◌+◌, ◌-◌, List, length, take, drop, sym, ap, ◌∙◌, arith, length-drop}
 use Rattle.demi_sga.specs.Arrays.{part_of}
 use Rattle.demi_sga.specs.Rows.{items}
 use Rattle.demi_sga.proofs.Lists.{part_at, part_past, take_same}

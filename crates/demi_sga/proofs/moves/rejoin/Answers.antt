@@ -1,4 +1,4 @@
-use Rattle.std.proofs.Common.{◌≡◌, ℕ, ◌+◌, ◌<◌, ◌≤◌, List, [], ◌++◌, length, take, drop, sym, refl, ap, ◌∙◌, subst, arith, length-drop}
+use Rattle.std.proofs.Common.{ℕ, List, ◌++◌, length, drop, sym, ap, ◌∙◌, subst, arith, length-drop}
 use Rattle.demi_heap.specs.Seen.{HalfValue, PassValue}
 use Rattle.demi_sga.specs.Arrays.{AreOf, SameSlots, LentValue}
 use Rattle.demi_sga.specs.Rows.{items}
