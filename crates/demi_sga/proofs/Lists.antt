@@ -1,0 +1,133 @@
+-- Lists of halves.
+use Rattle.std.proofs.Common.{◌≡◌, ℕ, zero, suc, ◌+◌, ◌-◌, ◌<◌, ◌≤◌, List, [], ◌∷◌, ◌++◌, length, take, drop, Bool, cond, set, sym, refl, ap, ◌∙◌, subst, arith, length-append, take_all}
+use Rattle.std.proofs.lemmas.Bool.{lt-ltb, le-ltb}
+use mathlib.Core.Option.{some, some-injective, some-ne-none}
+use lib.ListN.{get_elem?}
+use Rattle.demi_buf.specs.Bufs.{size_of}
+use Rattle.demi_buf.specs.declared.class.Class.{Class}
+use Rattle.demi_buf.specs.declared.class.Class.TheVariants.{Small, Page, Large}
+use Rattle.demi_heap.specs.Seen.{HeapId, HalfValue}
+use Rattle.demi_sga.specs.Arrays.{AreOf, SameSlots, byte_count, part_of, first_held, held_at}
+
+pub size_limit : (c : Class) → size_of c ≤ 65536
+size_limit Small = omega arith
+size_limit Page = omega arith
+size_limit Large = omega arith
+
+-- one segment more
+pub bytes_more : (xs : List HalfValue) (i : ℕ) (a : HalfValue) → get_elem? xs i ≡ some a → byte_count (take (i + 1) xs) ≡ byte_count (take i xs) + length a.bytes
+bytes_more [] i a e = absurd (some-ne-none a (sym e))
+bytes_more (x ∷ xs) zero a e = let is : length x.bytes ≡ length a.bytes = ap (λ (z : HalfValue). length z.bytes) (some-injective x a e) in omega arith
+bytes_more (x ∷ xs) (suc i) a e = let r = bytes_more xs i a e in let c : suc i + 1 ≡ suc (i + 1) = omega arith in
+    subst (λ (n : ℕ). byte_count (take n (x ∷ xs)) ≡ byte_count (take (suc i) (x ∷ xs)) + length a.bytes) (sym c) (omega arith)
+
+-- the segments from i on
+pub drop_at : (xs : List HalfValue) (i : ℕ) (a : HalfValue) → get_elem? xs i ≡ some a → drop i xs ≡ a ∷ drop (i + 1) xs
+drop_at [] i a e = absurd (some-ne-none a (sym e))
+drop_at (x ∷ xs) zero a e = λ k. some-injective x a e k ∷ xs
+drop_at (x ∷ xs) (suc i) a e = drop_at xs i a e ∙ (λ k. a ∷ step (sym (let c : suc i + 1 ≡ suc (i + 1) = omega arith in c)) k)
+  where
+    step : {m n : ℕ} → m ≡ n → drop m (x ∷ xs) ≡ drop n (x ∷ xs)
+    step q = ap (λ (n : ℕ). drop n (x ∷ xs)) q
+
+pub of_append : (h : HeapId) (xs ys : List HalfValue) → AreOf h (xs ++ ys) → AreOf h xs × AreOf h ys
+of_append h [] ys o = (tt, o)
+of_append h (x ∷ xs) ys o = let r = of_append h xs ys o.1 in ((o.0, r.0), r.1)
+
+pub of_parts : (h : HeapId) (k : ℕ) (xs : List HalfValue) → AreOf h xs → AreOf h (take k xs) × AreOf h (drop k xs)
+of_parts h zero xs o = (tt, o)
+of_parts h (suc k) [] o = (tt, tt)
+of_parts h (suc k) (x ∷ xs) o = let r = of_parts h k xs o.1 in ((o.0, r.0), r.1)
+
+pub same_length : (xs ys : List HalfValue) → SameSlots xs ys → length xs ≡ length ys
+same_length [] [] s = refl
+same_length [] (y ∷ ys) s = absurd s
+same_length (x ∷ xs) [] s = absurd s
+same_length (x ∷ xs) (y ∷ ys) s = let r = same_length xs ys s.1 in omega arith
+
+pub same_rest : (xs zs ys : List HalfValue) → SameSlots (xs ++ zs) ys → SameSlots zs (drop (length xs) ys)
+same_rest [] zs ys s = s
+same_rest (x ∷ xs) zs [] s = absurd s
+same_rest (x ∷ xs) zs (y ∷ ys) s = same_rest xs zs ys s.1
+
+-- the bytes of a part, in the segment where it begins and behind it
+module _ (xs : List HalfValue) (i : ℕ) (a : HalfValue) (from most : ℕ) (at : get_elem? xs i ≡ some a) where
+  pub part_at : from < length a.bytes → part_of (drop i xs) from most ≡ take most (drop from a.bytes)
+  part_at h = ap (λ (l : List HalfValue). part_of l from most) (drop_at xs i a at) ∙ ap (λ (t : Bool). cond t (take most (drop from a.bytes)) (part_of (drop (i + 1) xs) (from - length a.bytes) most)) (lt-ltb from (length a.bytes) h)
+
+  pub part_past : length a.bytes ≤ from → part_of (drop i xs) from most ≡ part_of (drop (i + 1) xs) (from - length a.bytes) most
+  part_past h = ap (λ (l : List HalfValue). part_of l from most) (drop_at xs i a at) ∙ ap (λ (t : Bool). cond t (take most (drop from a.bytes)) (part_of (drop (i + 1) xs) (from - length a.bytes) most)) (le-ltb from (length a.bytes) h)
+
+pub take_same : (xs : List ℕ) (m n : ℕ) → length xs ≤ m → length xs ≤ n → take m xs ≡ take n xs
+take_same xs m n h k = take_all m xs h ∙ sym (take_all n xs k)
+
+no_front : {A : Type 0} (b : A) (ys : List A) → [] ≡ b ∷ ys → ⊥
+no_front b ys e = let n = ap length e in omega arith
+
+pub get_drop : {A : Type 0} (xs : List A) (i : ℕ) (b : A) (ys : List A) → drop i xs ≡ b ∷ ys → get_elem? xs i ≡ some b
+get_drop [] zero b ys e = absurd (no_front b ys e)
+get_drop [] (suc i) b ys e = absurd (no_front b ys e)
+get_drop (x ∷ xs) zero b ys e = ap (λ l. get_elem? l 0) e
+get_drop (x ∷ xs) (suc i) b ys e = get_drop xs i b ys e
+
+abbrev tail : {A : Type 0} → List A → List A
+tail [] = []
+tail (x ∷ xs) = xs
+
+pub set_split : {A : Type 0} (xs : List A) (i : ℕ) (b : A) (ys : List A) (y : A) → drop i xs ≡ b ∷ ys → take i xs ++ y ∷ ys ≡ set xs i y
+set_split [] zero b ys y e = absurd (no_front b ys e)
+set_split [] (suc i) b ys y e = absurd (no_front b ys e)
+set_split (x ∷ xs) zero b ys y e = λ k. y ∷ sym (ap tail e) k
+set_split (x ∷ xs) (suc i) b ys y e = λ k. x ∷ set_split xs i b ys y e k
+
+bytes_append : (xs ys : List HalfValue) → byte_count (xs ++ ys) ≡ byte_count xs + byte_count ys
+bytes_append [] ys = omega arith
+bytes_append (x ∷ xs) ys = let r = bytes_append xs ys in omega arith
+
+held_bytes : (xs : List HalfValue) → byte_count (first_held xs) ≡ byte_count xs
+held_bytes [] = refl
+held_bytes (x ∷ xs) = refl
+
+held_length : (xs : List HalfValue) → length (first_held xs) ≡ length xs
+held_length [] = refl
+held_length (x ∷ xs) = refl
+
+pub parts : (k : ℕ) (xs : List HalfValue) → take k xs ++ drop k xs ≡ xs
+parts zero xs = refl
+parts (suc k) [] = refl
+parts (suc k) (x ∷ xs) = λ i. x ∷ parts k xs i
+
+take_past : (back xs : List HalfValue) (k : ℕ) → take (length back + k) (back ++ xs) ≡ back ++ take k xs
+take_past [] xs k = ap (λ (n : ℕ). take n xs) (let e : 0 + k ≡ k = omega arith in e)
+take_past (b ∷ bs) xs k = ap (λ (n : ℕ). take n (b ∷ bs ++ xs)) (let e : suc (length bs) + k ≡ suc (length bs + k) = omega arith in e) ∙ (λ i. b ∷ take_past bs xs k i)
+
+drop_past : (back xs : List HalfValue) (k : ℕ) → drop (length back + k) (back ++ xs) ≡ drop k xs
+drop_past [] xs k = ap (λ (n : ℕ). drop n xs) (let e : 0 + k ≡ k = omega arith in e)
+drop_past (b ∷ bs) xs k = ap (λ (n : ℕ). drop n (b ∷ bs ++ xs)) (let e : suc (length bs) + k ≡ suc (length bs + k) = omega arith in e) ∙ drop_past bs xs k
+
+-- what a reclaim leaves
+module _ (back more left rest : List HalfValue) (took : more ≡ take (length more) rest) (leaves : left ≡ first_held (drop (length more) rest)) where
+  pub back_length : length more + length left ≡ length rest
+  back_length = let p = ap length (parts (length more) rest) in let a = length-append (take (length more) rest) (drop (length more) rest) in let t = ap length took in let l = ap length leaves in let h = held_length (drop (length more) rest) in omega arith
+
+  pub back_bytes : byte_count ((back ++ more) ++ left) ≡ byte_count (back ++ rest)
+  back_bytes = let a = bytes_append (back ++ more) left in let b = bytes_append back more in let c = bytes_append back rest in let p = ap byte_count (parts (length more) rest) in let d = bytes_append (take (length more) rest) (drop (length more) rest) in
+      let t = ap byte_count took in let l = ap byte_count leaves in let h = held_bytes (drop (length more) rest) in omega arith
+
+  pub back_held : (back ++ more) ++ left ≡ held_at (length (back ++ more)) (back ++ rest)
+  back_held = let n = length-append back more in
+      (λ i. (back ++ took i) ++ leaves i) ∙ ((λ i. sym (take_past back rest (length more)) i ++ first_held (sym (drop_past back rest (length more)) i)) ∙ ap (λ (k : ℕ). held_at k (back ++ rest)) (sym n))
+
+  pub back_all : left ≡ [] → back ++ more ≡ back ++ rest
+  back_all none = let l = ap length none in let n = back_length in let long : length rest ≤ length more = omega arith in λ i. back ++ (took ∙ take_all (length more) rest long) i
+
+pub append_of : (h : HeapId) (xs ys : List HalfValue) → AreOf h xs → AreOf h ys → AreOf h (xs ++ ys)
+append_of h [] ys o p = p
+append_of h (x ∷ xs) ys o p = (o.0, append_of h xs ys o.1 p)
+
+pub held_of : (h : HeapId) (k : ℕ) (xs : List HalfValue) → AreOf h xs → AreOf h (held_at k xs)
+held_of h k xs o = let p = of_parts h k xs o in append_of h (take k xs) (first_held (drop k xs)) p.0 (first (drop k xs) p.1)
+  where
+    first : (ys : List HalfValue) → AreOf h ys → AreOf h (first_held ys)
+    first [] q = q
+    first (y ∷ ys) q = q
