@@ -1,5 +1,5 @@
 -- What contracts see of a port, a pass, the device's seat, a note and a port's end.
-use Rattle.std.specs.Prelude.{◌≡◌, ◌≢◌, ℕ, ◌+◌, ◌%◌, ◌/◌, ◌<◌, ◌≤◌, ◌⊎◌, List, [], ◌∷◌, ◌++◌, Option, Some, None, max, true, false}
+use Rattle.std.specs.Prelude.{◌≡◌, ◌≢◌, ℕ, ◌+◌, ◌%◌, ◌/◌, ◌<◌, ◌≤◌, ◌⊎◌, List, [], ◌∷◌, ◌++◌, Option, Some, None, max, cond, ◌==◌, true, false}
 use Rattle.atomic_table.specs.Seated.{TableId}
 use Rattle.atomic_table.specs.Table.{Me}
 use Rattle.demi_port_core.specs.declared.view.Role.TheVariants.{Pass, Device, Note}
@@ -8,7 +8,7 @@ use Rattle.demi_port_core.specs.declared.view.View.{View}
 use Rattle.demi_port_core.specs.declared.trail.Trail.{Trail}
 use Rattle.demi_port_core.specs.History.{Each, Among, ground}
 use Rattle.demi_port_core.specs.Machine.{token_of, last_round, submitted}
-use Rattle.demi_port_core.specs.Told.{OwesNothing}
+use Rattle.demi_port_core.specs.Told.{OwesNothing, clear}
 use mathlib.Core.Option.{some}
 use lib.ListN.{get_elem?}
 use Rattle.demi_port_core.specs.Trails.{StartsWith}
@@ -122,3 +122,8 @@ IsNewPass port n p = p ≡ record { port = port; number = n; seen = 0; submitted
 -- of what a pass knows of the outside
 abbrev pub known_by : {D T B : Type 0} → PassValue D T B → Trail D T
 known_by p = record { device = false; heard = p.ground; told = p.trail; floor = p.floor; handed = [] }
+
+-- at a step of a call that brought the pass from v to w, it found a word of the token's index, of which F holds. Nothing else changed, but that a look at a token that is not done pays what the pass owed of it
+abbrev pub Found : {D T B : Type 0} → PassValue D T B → PassValue D T B → ℕ → (ℕ → Type 0) → Type 0
+Found v w token F = (t : ℕ) × (n : ℕ) × (v.clock ≤ t) × F n
+    × (w ≡ record v { clock = t + 1; looks = v.looks ++ (t, (token % 1024 + 3, n)) ∷ []; owes = cond (n % 8 == 2) v.owes (clear (token % 1024) v.owes) })

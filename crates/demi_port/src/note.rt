@@ -19,5 +19,5 @@ impl<L: Law> Model for Note<L> {
 
     ghost view = { λ n. record { port = record { tokens = n.seat.table_id; key = n.key }; seen = n.seat.me.0.seen } };
 
-    ghost invariant = { λ n. (n.seat.me.0.role ≡ Note) × (n.seat.me.1 ≡ []) };
+    ghost invariant = { λ n. (n.seat.me.0.role ≡ Note) × (n.seat.me.1 ≡ []) × (n.seat.me.0.owes ≡ 0) };
 }

@@ -44,3 +44,7 @@ pub returns-clause-ready : goal.returns-clause-ready
 returns-clause-ready g c = let w = c.compare_exchange-found.ensures.2.0 c.if-found-round.false in let key = c.args.self.now.table.shared.key in
     let a = answered_same _ _ _ _ _ _ _ (answers_by key.records (g.L.Law.admits key.base) w.6) _ _ _ _ (sym c.exchange-slip.ensures.2 ∙ w.15) (c.in-Some-Answered.is ∙ ap Some c.in-Some-Answered.field-0-is) (w.7 key c.requires.port.2) in let t = c.take_in.ensures.view a.1.0 a.1.1 in
     (w.6, a.1.0, a.1.2, t.0, t.1, t.2)
+
+pub returns-clause-grows : goal.returns-clause-grows
+returns-clause-grows g c = let w = c.compare_exchange-found.ensures.2.0 c.if-found-round.false in let key = c.args.self.now.table.shared.key in
+    let a = answered_same _ _ _ _ _ _ _ (answers_by key.records (g.L.Law.admits key.base) w.6) _ _ _ _ (sym c.exchange-slip.ensures.2 ∙ w.15) (c.in-Some-Answered.is ∙ ap Some c.in-Some-Answered.field-0-is) (w.7 key c.requires.port.2) in (c.take_in.ensures.view a.1.0 a.1.1).1
