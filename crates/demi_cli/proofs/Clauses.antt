@@ -1,0 +1,277 @@
+-- What a status says, from what stands at an outcome.
+use Rattle.std.proofs.Common.{◌≡◌, ◌≢◌, ℕ, ◌+◌, ◌≤◌, List, [], ◌∷◌, ◌++◌, length, take, Option, Some, None, Bool, true, false, refl, ap, sym, ◌∙◌, arith, subst, inl, inr, ◌⊎◌}
+use Rattle.std.specs.Prelude.{if◌then◌else◌, ◌==◌, bytes_eq}
+use Rattle.std.proofs.lemmas.Slice.Eq.{bytes_eq-Decides}
+use Rattle.std.specs.Io.KnownBytes.{append_known}
+use Rattle.demi_core.specs.Outside.{Rose}
+use Rattle.demi_core.specs.World.{WorldState, Link, Log, after_links, after_keep_link, after_log, after_keep_log, after_warn, LogRefused}
+use Rattle.demi_spec.specs.LogText.{header}
+use Rattle.demi_cli.specs.Serving.{Whole, Stopped, contents_of}
+use Rattle.demi_cli.specs.declared.serving.Fault.{Fault}
+use Rattle.demi_cli.specs.declared.serving.Fault.TheVariants as fault
+use Rattle.demi_cli.specs.declared.outcome.Outcome.{Outcome}
+use Rattle.demi_cli.specs.declared.outcome.Outcome.TheVariants as outcome
+use Rattle.demi_cli.specs.Outcome.{status_of, reported, text_of}
+use Rattle.demi_cli.specs.Run.{Gave, A_log, Nothing, KeepsAll, with_link, Ends, Ran, headed, LogOf, LinkOf, NoLink, SameButWarned, Keeps, CannotOpen, BeforeLink, BadLog, EmptyLog, LogFaulted, ReadFaulted, WriteFaulted, outcome_at_end, WholeRun, status_of_fault, Unlinked, StoppedRun, Warned}
+
+-- the outcome of a status
+abbrev outcome_at : ℕ → ℕ → Outcome
+outcome_at n code =
+    if n == 0 then outcome.Served else if n == 1 then outcome.Usage else if n == 2 then outcome.ReadFault else if n == 3 then outcome.WriteFault
+    else if n == 4 then outcome.LogFault else if n == 5 then outcome.NoMemory else if n == 6 then outcome.Refused code else if n == 7 then outcome.BadLog else outcome.CannotOpen
+
+back : (o : Outcome) → (code : ℕ) × (o ≡ outcome_at (status_of o) code)
+back outcome.Served = (0, refl)
+back outcome.Usage = (0, refl)
+back outcome.ReadFault = (0, refl)
+back outcome.WriteFault = (0, refl)
+back outcome.LogFault = (0, refl)
+back outcome.NoMemory = (0, refl)
+back (outcome.Refused code) = (code, refl)
+back outcome.BadLog = (0, refl)
+back outcome.CannotOpen = (0, refl)
+
+is_at : (n m : ℕ) (o : Outcome) → n ≡ status_of o → n ≡ m → (code : ℕ) × (o ≡ outcome_at m code)
+is_at n m o is e = let b = back o in (b.0, b.1 ∙ ap (λ k. outcome_at k b.0) (sym is ∙ e))
+
+-- a report changes the warning alone
+only_warned : (o : Outcome) (mid : WorldState) → reported o mid ≡ record mid { warned = (reported o mid).warned }
+only_warned outcome.Served mid = refl
+only_warned outcome.Usage mid = refl
+only_warned outcome.ReadFault mid = refl
+only_warned outcome.WriteFault mid = refl
+only_warned outcome.LogFault mid = refl
+only_warned outcome.NoMemory mid = refl
+only_warned (outcome.Refused code) mid = refl
+only_warned outcome.BadLog mid = refl
+only_warned outcome.CannotOpen mid = refl
+
+pub same_but : (o : Outcome) (mid new : WorldState) → new ≡ reported o mid → SameButWarned mid new
+same_but o mid new is = is ∙ only_warned o mid ∙ ap (λ (t : List ℕ). record mid { warned = t }) (ap (λ (w : WorldState). w.warned) (sym is))
+
+warned_of : (o : Outcome) (old mid : WorldState) → mid.warned ≡ old.warned → (reported o mid).warned ≡ (reported o old).warned
+warned_of outcome.Served old mid e = e
+warned_of outcome.Usage old mid e = refl
+warned_of outcome.ReadFault old mid e = refl
+warned_of outcome.WriteFault old mid e = refl
+warned_of outcome.LogFault old mid e = refl
+warned_of outcome.NoMemory old mid e = refl
+warned_of (outcome.Refused code) old mid e = refl
+warned_of outcome.BadLog old mid e = refl
+warned_of outcome.CannotOpen old mid e = refl
+
+-- neither warned nor said by what was given
+plain_link : (link : Option (Link × Link)) (w : WorldState) → ((with_link link w).warned ≡ w.warned) × ((with_link link w).said ≡ w.said) × ((with_link link w).given_logs ≡ w.given_logs)
+plain_link None w = (refl, refl, refl)
+plain_link (Some p) w = (refl, refl, refl)
+
+mid_warned : (gave : Gave) (name : List ℕ) (old mid : WorldState) → KeepsAll gave name old mid → mid.warned ≡ old.warned
+mid_warned Nothing name old mid keeps = ap (λ (w : WorldState). w.warned) keeps.0
+mid_warned (A_log log kept link) name old mid keeps = ap (λ (w : WorldState). w.warned) keeps ∙ (plain_link link (after_log old name log)).0
+
+mid_said : (gave : Gave) (name : List ℕ) (old mid : WorldState) → KeepsAll gave name old mid → mid.said ≡ old.said
+mid_said Nothing name old mid keeps = ap (λ (w : WorldState). w.said) keeps.0
+mid_said (A_log log kept link) name old mid keeps = ap (λ (w : WorldState). w.said) keeps ∙ (plain_link link (after_log old name log)).1
+
+pub said : (old mid new : WorldState) (f0 f1 : ℕ) (name : List ℕ) (o : Outcome) → Ran old mid f0 f1 name o → new ≡ reported o mid → new.said ≡ old.said
+said old mid new f0 f1 name o r is = ap (λ (w : WorldState). w.said) (same_but o mid new is) ∙ mid_said r.gave name old mid r.keeps
+
+warning : (old mid new : WorldState) (f0 f1 : ℕ) (name : List ℕ) (o : Outcome) → Ran old mid f0 f1 name o → new ≡ reported o mid → new.warned ≡ (reported o old).warned
+warning old mid new f0 f1 name o r is = ap (λ (w : WorldState). w.warned) is ∙ warned_of o old mid (mid_warned r.gave name old mid r.keeps)
+
+pub warned : (old mid new : WorldState) (f0 f1 : ℕ) (name : List ℕ) (o : Outcome) (n : ℕ) → Ran old mid f0 f1 name o → n ≡ status_of o → new ≡ reported o mid → Warned n old new
+warned old mid new f0 f1 name o n r status is = (o, status, warning old mid new f0 f1 name o r is)
+
+pub keeps : (old mid new : WorldState) (f0 f1 : ℕ) (name : List ℕ) (o : Outcome) → Ran old mid f0 f1 name o → new ≡ reported o mid → Keeps old new name
+keeps old mid new f0 f1 name o r is = (r.gave, (mid, r.keeps, same_but o mid new is))
+
+-- the log and the link
+abbrev log_of : (old mid new : WorldState) (name : List ℕ) (log kept : Log) (link : Option (Link × Link)) → KeepsAll (A_log log kept link) name old mid → SameButWarned mid new → LogOf old new name
+log_of old mid new name log kept link keeps same = record {
+  log = log;
+  kept = kept;
+  gave = ap (λ (w : WorldState). w.given_logs) same ∙ ap (λ (w : WorldState). w.given_logs) keeps ∙ (plain_link link (after_log old name log)).2;
+  keeps = ap (λ (w : WorldState). w.kept_log name) same ∙ ap (λ (w : WorldState). w.kept_log name) keeps
+      ∙ ap (λ b. if b then Some kept else (with_link link (after_log old name log)).kept_log name) ((bytes_eq-Decides name name).1 refl);
+}
+
+abbrev link_of : (old mid new : WorldState) (name : List ℕ) (log kept : Log) (p : Link × Link) → KeepsAll (A_log log kept (Some p)) name old mid → SameButWarned mid new → LinkOf old new
+link_of old mid new name log kept p keeps same = record {
+  link = p.0;
+  kept = p.1;
+  gave = ap (λ (w : WorldState). w.given_links) same ∙ ap (λ (w : WorldState). w.given_links) keeps;
+  keeps = ap (λ (w : WorldState). w.kept_link 0) same ∙ ap (λ (w : WorldState). w.kept_link 0) keeps;
+}
+
+no_link : (old mid new : WorldState) (name : List ℕ) (log kept : Log) → KeepsAll (A_log log kept None) name old mid → SameButWarned mid new → NoLink old new
+no_link old mid new name log kept keeps same = ap (λ (w : WorldState). w.given_links) same ∙ ap (λ (w : WorldState). w.given_links) keeps
+
+nothing : (old mid new : WorldState) (name : List ℕ) → LogRefused old mid name → SameButWarned mid new → NoLink old new × (new.given_logs ≡ old.given_logs)
+nothing old mid new name keeps same =
+    (ap (λ (w : WorldState). w.given_links) same ∙ ap (λ (w : WorldState). w.given_links) keeps.0, ap (λ (w : WorldState). w.given_logs) same ∙ ap (λ (w : WorldState). w.given_logs) keeps.0)
+
+-- nothing was given, or a log alone that has its header
+none_given : (old mid new : WorldState) (name : List ℕ) → LogRefused old mid name → SameButWarned mid new → BeforeLink old new name
+none_given old mid new name keeps same = let n = nothing old mid new name keeps same in (n.0, inl n.1)
+
+log_alone : (old mid new : WorldState) (name : List ℕ) (log kept : Log) → KeepsAll (A_log log kept None) name old mid → SameButWarned mid new → log.held ≡ 0 → contents_of kept ≡ contents_of (headed log) → BeforeLink old new name
+log_alone old mid new name log kept keeps same zero is = (no_link old mid new name log kept keeps same, inr (log_of old mid new name log kept None keeps same, zero, is))
+
+cannot_open_at : (old mid new : WorldState) (f0 f1 : ℕ) (name : List ℕ) (gave : Gave) → KeepsAll gave name old mid → SameButWarned mid new → Ends outcome.CannotOpen gave f0 f1 → CannotOpen old new name f0 f1
+cannot_open_at old mid new f0 f1 name Nothing keeps same ends = (ends, none_given old mid new name keeps same)
+cannot_open_at old mid new f0 f1 name (A_log log kept None) keeps same ends = (ends.1.0, log_alone old mid new name log kept keeps same ends.0 ends.1.1)
+cannot_open_at old mid new f0 f1 name (A_log log kept (Some p)) keeps same ends = absurd ends.1
+
+pub cannot_open : (old mid new : WorldState) (f0 f1 : ℕ) (name : List ℕ) (o : Outcome) (n : ℕ) → Ran old mid f0 f1 name o → n ≡ status_of o → new ≡ reported o mid → n ≡ 8 → CannotOpen old new name f0 f1
+cannot_open old mid new f0 f1 name o n r status is e =
+    let at : o ≡ outcome.CannotOpen = (is_at n 8 o status e).1 in
+    cannot_open_at old mid new f0 f1 name r.gave r.keeps (same_but o mid new is) (subst (λ (x : Outcome). Ends x r.gave f0 f1) at r.ends)
+
+bad_log_at : (old mid new : WorldState) (f0 f1 : ℕ) (name : List ℕ) (gave : Gave) → KeepsAll gave name old mid → SameButWarned mid new → Ends outcome.BadLog gave f0 f1 → BadLog old new name
+bad_log_at old mid new f0 f1 name Nothing keeps same ends = absurd ends
+bad_log_at old mid new f0 f1 name (A_log log kept None) keeps same ends = (no_link old mid new name log kept keeps same, (log_of old mid new name log kept None keeps same, ends.0, ends.1))
+bad_log_at old mid new f0 f1 name (A_log log kept (Some p)) keeps same ends = absurd ends.1
+
+pub bad_log : (old mid new : WorldState) (f0 f1 : ℕ) (name : List ℕ) (o : Outcome) (n : ℕ) → Ran old mid f0 f1 name o → n ≡ status_of o → new ≡ reported o mid → n ≡ 7 → BadLog old new name
+bad_log old mid new f0 f1 name o n r status is e =
+    let at : o ≡ outcome.BadLog = (is_at n 7 o status e).1 in
+    bad_log_at old mid new f0 f1 name r.gave r.keeps (same_but o mid new is) (subst (λ (x : Outcome). Ends x r.gave f0 f1) at r.ends)
+
+log_fault_at : (old mid new : WorldState) (f0 f1 : ℕ) (name : List ℕ) (gave : Gave) → KeepsAll gave name old mid → SameButWarned mid new → Ends outcome.LogFault gave f0 f1
+    → LogFaulted old new name × (Unlinked fault.Log old new name ⊎ StoppedRun fault.Log old new name)
+log_fault_at old mid new f0 f1 name Nothing keeps same ends = absurd ends
+log_fault_at old mid new f0 f1 name (A_log log kept None) keeps same ends =
+    let d : LogOf old new name = log_of old mid new name log kept None keeps same in
+    ((d, ends.0), inl (no_link old mid new name log kept keeps same, (d, ends.1)))
+log_fault_at old mid new f0 f1 name (A_log log kept (Some p)) keeps same ends =
+    let d : LogOf old new name = log_of old mid new name log kept (Some p) keeps same in
+    ((d, ends.1.stands.0), inr (record { of_log = d; of_link = link_of old mid new name log kept p keeps same; empty = ends.0; stopped = ends.1 }))
+
+log_faulted : (old mid new : WorldState) (f0 f1 : ℕ) (name : List ℕ) (o : Outcome) (n : ℕ) → Ran old mid f0 f1 name o → n ≡ status_of o → new ≡ reported o mid → n ≡ 4
+    → LogFaulted old new name × (Unlinked fault.Log old new name ⊎ StoppedRun fault.Log old new name)
+log_faulted old mid new f0 f1 name o n r status is e =
+    let at : o ≡ outcome.LogFault = (is_at n 4 o status e).1 in
+    log_fault_at old mid new f0 f1 name r.gave r.keeps (same_but o mid new is) (subst (λ (x : Outcome). Ends x r.gave f0 f1) at r.ends)
+
+pub log_fault : (old mid new : WorldState) (f0 f1 : ℕ) (name : List ℕ) (o : Outcome) (n : ℕ) → Ran old mid f0 f1 name o → n ≡ status_of o → new ≡ reported o mid → n ≡ 4 → LogFaulted old new name
+log_fault old mid new f0 f1 name o n r status is e = (log_faulted old mid new f0 f1 name o n r status is e).0
+
+read_fault_at : (old mid new : WorldState) (f0 f1 : ℕ) (name : List ℕ) (gave : Gave) → KeepsAll gave name old mid → SameButWarned mid new → Ends outcome.ReadFault gave f0 f1
+    → ReadFaulted old new × StoppedRun fault.Read old new name
+read_fault_at old mid new f0 f1 name Nothing keeps same ends = absurd ends
+read_fault_at old mid new f0 f1 name (A_log log kept None) keeps same ends = absurd ends.1
+read_fault_at old mid new f0 f1 name (A_log log kept (Some p)) keeps same ends =
+    let l : LinkOf old new = link_of old mid new name log kept p keeps same in
+    ((l, ends.1.stands.0), record { of_log = log_of old mid new name log kept (Some p) keeps same; of_link = l; empty = ends.0; stopped = ends.1 })
+
+read_faulted : (old mid new : WorldState) (f0 f1 : ℕ) (name : List ℕ) (o : Outcome) (n : ℕ) → Ran old mid f0 f1 name o → n ≡ status_of o → new ≡ reported o mid → n ≡ 2
+    → ReadFaulted old new × StoppedRun fault.Read old new name
+read_faulted old mid new f0 f1 name o n r status is e =
+    let at : o ≡ outcome.ReadFault = (is_at n 2 o status e).1 in
+    read_fault_at old mid new f0 f1 name r.gave r.keeps (same_but o mid new is) (subst (λ (x : Outcome). Ends x r.gave f0 f1) at r.ends)
+
+pub read_fault : (old mid new : WorldState) (f0 f1 : ℕ) (name : List ℕ) (o : Outcome) (n : ℕ) → Ran old mid f0 f1 name o → n ≡ status_of o → new ≡ reported o mid → n ≡ 2 → ReadFaulted old new
+read_fault old mid new f0 f1 name o n r status is e = (read_faulted old mid new f0 f1 name o n r status is e).0
+
+write_fault_at : (old mid new : WorldState) (f0 f1 : ℕ) (name : List ℕ) (gave : Gave) → KeepsAll gave name old mid → SameButWarned mid new → Ends outcome.WriteFault gave f0 f1
+    → WriteFaulted old new × StoppedRun fault.Write old new name
+write_fault_at old mid new f0 f1 name Nothing keeps same ends = absurd ends
+write_fault_at old mid new f0 f1 name (A_log log kept None) keeps same ends = absurd ends.1
+write_fault_at old mid new f0 f1 name (A_log log kept (Some p)) keeps same ends =
+    let l : LinkOf old new = link_of old mid new name log kept p keeps same in
+    ((l, ends.1.stands.0), record { of_log = log_of old mid new name log kept (Some p) keeps same; of_link = l; empty = ends.0; stopped = ends.1 })
+
+write_faulted : (old mid new : WorldState) (f0 f1 : ℕ) (name : List ℕ) (o : Outcome) (n : ℕ) → Ran old mid f0 f1 name o → n ≡ status_of o → new ≡ reported o mid → n ≡ 3
+    → WriteFaulted old new × StoppedRun fault.Write old new name
+write_faulted old mid new f0 f1 name o n r status is e =
+    let at : o ≡ outcome.WriteFault = (is_at n 3 o status e).1 in
+    write_fault_at old mid new f0 f1 name r.gave r.keeps (same_but o mid new is) (subst (λ (x : Outcome). Ends x r.gave f0 f1) at r.ends)
+
+pub write_fault : (old mid new : WorldState) (f0 f1 : ℕ) (name : List ℕ) (o : Outcome) (n : ℕ) → Ran old mid f0 f1 name o → n ≡ status_of o → new ≡ reported o mid → n ≡ 3 → WriteFaulted old new
+write_fault old mid new f0 f1 name o n r status is e = (write_faulted old mid new f0 f1 name o n r status is e).0
+
+no_memory_at : (old mid new : WorldState) (f0 f1 : ℕ) (name : List ℕ) (gave : Gave) → KeepsAll gave name old mid → SameButWarned mid new → Ends outcome.NoMemory gave f0 f1
+    → Unlinked fault.NoMemory old new name ⊎ StoppedRun fault.NoMemory old new name
+no_memory_at old mid new f0 f1 name Nothing keeps same ends = inl (none_given old mid new name keeps same)
+no_memory_at old mid new f0 f1 name (A_log log kept None) keeps same ends =
+    inl (log_alone old mid new name log kept keeps same ends.0 ends.1)
+no_memory_at old mid new f0 f1 name (A_log log kept (Some p)) keeps same ends =
+    inr (record { of_log = log_of old mid new name log kept (Some p) keeps same; of_link = link_of old mid new name log kept p keeps same; empty = ends.0; stopped = ends.1 })
+
+pub stopped : (old mid new : WorldState) (f0 f1 : ℕ) (name : List ℕ) (o : Outcome) (n : ℕ) → Ran old mid f0 f1 name o → n ≡ status_of o → new ≡ reported o mid
+    → (f : Fault) → n ≡ status_of_fault f → Unlinked f old new name ⊎ StoppedRun f old new name
+stopped old mid new f0 f1 name o n r status is fault.Read e = inr (read_faulted old mid new f0 f1 name o n r status is e).1
+stopped old mid new f0 f1 name o n r status is fault.Write e = inr (write_faulted old mid new f0 f1 name o n r status is e).1
+stopped old mid new f0 f1 name o n r status is fault.Log e = (log_faulted old mid new f0 f1 name o n r status is e).1
+stopped old mid new f0 f1 name o n r status is fault.NoMemory e =
+    let at : o ≡ outcome.NoMemory = (is_at n 5 o status e).1 in
+    no_memory_at old mid new f0 f1 name r.gave r.keeps (same_but o mid new is) (subst (λ (x : Outcome). Ends x r.gave f0 f1) at r.ends)
+
+whole_at : (old mid new : WorldState) (f0 f1 : ℕ) (name : List ℕ) (code : Option ℕ) (n : ℕ) (gave : Gave) → KeepsAll gave name old mid → SameButWarned mid new → n ≡ status_of (outcome_at_end code)
+    → new.warned ≡ (reported (outcome_at_end code) old).warned → Ends (outcome_at_end code) gave f0 f1 → WholeRun old new name n
+whole_at old mid new f0 f1 name None n Nothing keeps same status text ends = absurd ends
+whole_at old mid new f0 f1 name (Some code) n Nothing keeps same status text ends = absurd ends
+whole_at old mid new f0 f1 name None n (A_log log kept None) keeps same status text ends = absurd ends.1
+whole_at old mid new f0 f1 name (Some code) n (A_log log kept None) keeps same status text ends = absurd ends.1
+whole_at old mid new f0 f1 name None n (A_log log kept (Some p)) keeps same status text ends = record {
+  of_log = log_of old mid new name log kept (Some p) keeps same;
+  of_link = link_of old mid new name log kept p keeps same;
+  code = None;
+  empty = ends.0;
+  whole = ends.1;
+  status_is = status;
+  warned_is = text;
+}
+whole_at old mid new f0 f1 name (Some code) n (A_log log kept (Some p)) keeps same status text ends = record {
+  of_log = log_of old mid new name log kept (Some p) keeps same;
+  of_link = link_of old mid new name log kept p keeps same;
+  code = Some code;
+  empty = ends.0;
+  whole = ends.1;
+  status_is = status;
+  warned_is = text;
+}
+
+whole_from : (old mid new : WorldState) (f0 f1 : ℕ) (name : List ℕ) (o : Outcome) (n : ℕ) (code : Option ℕ) → Ran old mid f0 f1 name o → n ≡ status_of o → new ≡ reported o mid → o ≡ outcome_at_end code → WholeRun old new name n
+whole_from old mid new f0 f1 name o n code r status is at =
+    whole_at old mid new f0 f1 name code n r.gave r.keeps (same_but o mid new is) (status ∙ ap status_of at) (warning old mid new f0 f1 name o r is ∙ ap (λ (x : Outcome). (reported x old).warned) at)
+    (subst (λ (x : Outcome). Ends x r.gave f0 f1) at r.ends)
+
+pub whole : (old mid new : WorldState) (f0 f1 : ℕ) (name : List ℕ) (o : Outcome) (n : ℕ) → Ran old mid f0 f1 name o → n ≡ status_of o → new ≡ reported o mid → (n ≡ 0) ⊎ (n ≡ 6) → WholeRun old new name n
+whole old mid new f0 f1 name o n r status is (inl e) = whole_from old mid new f0 f1 name o n None r status is (is_at n 0 o status e).1
+whole old mid new f0 f1 name o n r status is (inr e) = let b = is_at n 6 o status e in whole_from old mid new f0 f1 name o n (Some b.0) r status is b.1
+
+-- a log that is not empty
+empty_at : (old mid new : WorldState) (f0 f1 : ℕ) (name : List ℕ) (o : Outcome) (gave : Gave) → KeepsAll gave name old mid → SameButWarned mid new → o ≢ outcome.BadLog → o ≢ outcome.LogFault → Ends o gave f0 f1 → EmptyLog old new name
+empty_at old mid new f0 f1 name o Nothing keeps same a b ends = inl (nothing old mid new name keeps same).1
+empty_at old mid new f0 f1 name outcome.BadLog (A_log log kept link) keeps same a b ends = absurd (a refl)
+empty_at old mid new f0 f1 name outcome.LogFault (A_log log kept link) keeps same a b ends = absurd (b refl)
+empty_at old mid new f0 f1 name outcome.Served (A_log log kept link) keeps same a b ends = inr (log_of old mid new name log kept link keeps same, ends.0)
+empty_at old mid new f0 f1 name outcome.Usage (A_log log kept link) keeps same a b ends = inr (log_of old mid new name log kept link keeps same, ends.0)
+empty_at old mid new f0 f1 name outcome.ReadFault (A_log log kept link) keeps same a b ends = inr (log_of old mid new name log kept link keeps same, ends.0)
+empty_at old mid new f0 f1 name outcome.WriteFault (A_log log kept link) keeps same a b ends = inr (log_of old mid new name log kept link keeps same, ends.0)
+empty_at old mid new f0 f1 name outcome.NoMemory (A_log log kept link) keeps same a b ends = inr (log_of old mid new name log kept link keeps same, ends.0)
+empty_at old mid new f0 f1 name (outcome.Refused code) (A_log log kept link) keeps same a b ends = inr (log_of old mid new name log kept link keeps same, ends.0)
+empty_at old mid new f0 f1 name outcome.CannotOpen (A_log log kept link) keeps same a b ends = inr (log_of old mid new name log kept link keeps same, ends.0)
+
+pub good_log : (old mid new : WorldState) (f0 f1 : ℕ) (name : List ℕ) (o : Outcome) (n : ℕ) → Ran old mid f0 f1 name o → n ≡ status_of o → new ≡ reported o mid → n ≢ 7 → n ≢ 4 → EmptyLog old new name
+good_log old mid new f0 f1 name o n r status is seven four =
+    empty_at old mid new f0 f1 name o r.gave r.keeps (same_but o mid new is) (λ e. seven (status ∙ ap status_of e)) (λ e. four (status ∙ ap status_of e)) r.ends
+
+-- a run of `pipe` is no usage
+not_usage_at : (gave : Gave) (f0 f1 : ℕ) → Ends outcome.Usage gave f0 f1 → ⊥
+not_usage_at Nothing f0 f1 ends = ends
+not_usage_at (A_log log kept None) f0 f1 ends = ends.1
+not_usage_at (A_log log kept (Some p)) f0 f1 ends = ends.1
+
+pub not_usage : (old mid : WorldState) (f0 f1 : ℕ) (name : List ℕ) (o : Outcome) (n : ℕ) → Ran old mid f0 f1 name o → n ≡ status_of o → n ≡ 1 → ⊥
+not_usage old mid f0 f1 name o n r status e =
+    let at : o ≡ outcome.Usage = (is_at n 1 o status e).1 in
+    not_usage_at r.gave f0 f1 (subst (λ (x : Outcome). Ends x r.gave f0 f1) at r.ends)
+
+-- words that are no command
+pub no_stop : (n : ℕ) (old new : WorldState) (name : List ℕ) → n ≡ 1 → (f : Fault) → n ≡ status_of_fault f → Unlinked f old new name ⊎ StoppedRun f old new name
+no_stop n old new name one fault.Read e = absurd (let z : 1 ≡ 2 = sym one ∙ e in cc)
+no_stop n old new name one fault.Write e = absurd (let z : 1 ≡ 3 = sym one ∙ e in cc)
+no_stop n old new name one fault.Log e = absurd (let z : 1 ≡ 4 = sym one ∙ e in cc)
+no_stop n old new name one fault.NoMemory e = absurd (let z : 1 ≡ 5 = sym one ∙ e in cc)

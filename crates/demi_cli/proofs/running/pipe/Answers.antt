@@ -1,0 +1,40 @@
+use Rattle.std.proofs.Common.{◌≡◌, ◌∙◌, ap, sym, subst, [], List, ℕ, Option, Some, None}
+use Rattle.demi_core.specs.World.{Link, Log, WorldState, after_keep_log}
+use Rattle.demi_cli.specs.Run.{Gave, A_log, with_link}
+use Rattle.demi_cli.proofs.Ends.{ends_headed}
+use Rattle.demi_cli.proofs.running.pipe.Goals as goal
+
+pub returns-in-NotEmpty-clause-ran : goal.returns-in-NotEmpty-clause-ran
+returns-in-NotEmpty-clause-ran g c =
+    let log : Log = record { held = g.W.Log.Disk.held c.in-Ok.log; bytes = g.W.Log.Disk.bytes c.in-Ok.log; faults = g.W.Log.Disk.faults c.in-Ok.log } in
+    let kept : Log = record { held = g.W.Log.Disk.held c.in-Err.log; bytes = g.W.Log.Disk.bytes c.in-Err.log; faults = g.W.Log.Disk.faults c.in-Err.log } in
+    record {
+      gave = A_log log kept None;
+      keeps = c.keep_log.ensures.kept ∙ ap (λ (w : WorldState). after_keep_log w c.args.name.now kept) c.in-Ok.ensures.given;
+      ends = c.in-Err.ensures.not_empty c.in-NotEmpty.is;
+    }
+
+pub returns-in-Failed-clause-ran : goal.returns-in-Failed-clause-ran
+returns-in-Failed-clause-ran g c =
+    let log : Log = record { held = g.W.Log.Disk.held c.in-Ok.log; bytes = g.W.Log.Disk.bytes c.in-Ok.log; faults = g.W.Log.Disk.faults c.in-Ok.log } in
+    let kept : Log = record { held = g.W.Log.Disk.held c.in-Err.log; bytes = g.W.Log.Disk.bytes c.in-Err.log; faults = g.W.Log.Disk.faults c.in-Err.log } in
+    record {
+      gave = A_log log kept None;
+      keeps = c.keep_log.ensures.kept ∙ ap (λ (w : WorldState). after_keep_log w c.args.name.now kept) c.in-Ok.ensures.given;
+      ends = (c.in-Err.ensures.failed c.in-Failed.is, c.in-Err.ensures.front c.in-Failed.is);
+    }
+
+pub returns-clause-ran : goal.returns-clause-ran
+returns-clause-ran g c =
+    let name : List ℕ = c.args.name.now in
+    let log : Log = record { held = g.W.Log.Disk.held c.in-Ok.log; bytes = g.W.Log.Disk.bytes c.in-Ok.log; faults = g.W.Log.Disk.faults c.in-Ok.log } in
+    let mid : Log = record { held = g.W.Log.Disk.held c.in-Ok-make.store.disk; bytes = g.W.Log.Disk.bytes c.in-Ok-make.store.disk; faults = g.W.Log.Disk.faults c.in-Ok-make.store.disk } in
+    let end = c.over_link-outcome.new.store.disk in
+    let kept : Log = record { held = g.W.Log.Disk.held end; bytes = g.W.Log.Disk.bytes end; faults = g.W.Log.Disk.faults end } in
+    let e = c.over_link-outcome.ensures.ends in
+    let k = rw c.disk.ensures at c.keep_log-2.ensures.kept in
+    record {
+      gave = A_log log kept e.0;
+      keeps = k ∙ ap (λ (w : WorldState). after_keep_log w name kept) (e.1 ∙ ap (with_link e.0) c.in-Ok.ensures.given);
+      ends = ends_headed c.over_link-outcome.result e.0 log mid kept _ _ _ _ c.in-Ok-make.ensures.empty.1 c.in-Ok-make.ensures.headed c.in-Ok-make.ensures.later c.log.ensures.later c.keep_log-2.ensures.faults e.2;
+    }

@@ -1,0 +1,68 @@
+ghost use Rattle.std.specs.Prelude.{◌≡◌, ◌≤◌, length};
+ghost use Rattle.demi_cli.specs.Outcome.{status_of, text_of, reported, digit};
+
+use crate::outcome::Outcome;
+use demi_core::World;
+
+// The status of an outcome.
+fn status(outcome: Outcome) -> u8
+    ensures { result ≡ status_of outcome }
+{
+    match outcome {
+        Outcome::Served => 0,
+        Outcome::Usage => 1,
+        Outcome::ReadFault => 2,
+        Outcome::WriteFault => 3,
+        Outcome::LogFault => 4,
+        Outcome::NoMemory => 5,
+        Outcome::Refused(_) => 6,
+        Outcome::BadLog => 7,
+        Outcome::CannotOpen => 8,
+    }
+}
+
+// The text of a refused frame.
+fn refused_text(code: u8) -> &'static str
+    ensures text { result.now ≡ text_of (Outcome.Refused code) }
+    ensures short { length result.now ≤ 128 }
+{
+    match code {
+        1 => "demi: link 0 refused with code 1",
+        2 => "demi: link 0 refused with code 2",
+        3 => "demi: link 0 refused with code 3",
+        4 => "demi: link 0 refused with code 4",
+        _ => "demi: link 0 refused with code 5",
+    }
+}
+
+// The text of an outcome.
+fn text(outcome: Outcome) -> &'static str
+    ensures text { result.now ≡ text_of outcome }
+    ensures short { length result.now ≤ 128 }
+{
+    match outcome {
+        Outcome::Served => "",
+        Outcome::Usage => "usage: demi pipe, serve, bench, check or log",
+        Outcome::ReadFault => "demi: read fault on link 0",
+        Outcome::WriteFault => "demi: write fault on link 0",
+        Outcome::LogFault => "demi: log fault",
+        Outcome::NoMemory => "demi: out of memory",
+        Outcome::Refused(code) => refused_text(code),
+        Outcome::BadLog => "demi: bad log at byte 0",
+        Outcome::CannotOpen => "demi: cannot open",
+    }
+}
+
+/// Warns of an outcome, where there is something to say, and gives its exit status.
+pub fn report<W: World>(world: &mut W, outcome: Outcome) -> u8
+    ensures status { result ≡ status_of outcome }
+    ensures warned { W.state world.new ≡ reported outcome (W.state world.old) }
+    ensures faults { W.faults world.new ≡ W.faults world.old }
+    ensures print_faults { W.print_faults world.new ≡ W.print_faults world.old }
+{
+    match outcome {
+        Outcome::Served => {}
+        _ => world.warn(text(outcome)),
+    }
+    status(outcome)
+}

@@ -1,0 +1,6 @@
+pub mod Examples
+pub mod Fronts
+pub mod Parsing
+pub mod Serial
+pub mod LogTexts
+pub mod Payloads

@@ -1,0 +1,3 @@
+pub mod Growth
+pub mod Plains
+pub mod Gets

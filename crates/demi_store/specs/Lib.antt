@@ -1,0 +1,3 @@
+pub mod Contents
+pub mod Plain
+pub mod Inside
