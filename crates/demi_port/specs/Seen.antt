@@ -1,12 +1,13 @@
 -- What contracts see of a port, a pass, the device's seat, a note and a port's end.
-use Rattle.std.specs.Prelude.{◌≡◌, ◌≢◌, ℕ, ◌+◌, ◌%◌, ◌/◌, ◌<◌, ◌≤◌, ◌⊎◌, List, [], ◌∷◌, ◌++◌, Option, Some, None, max, cond, ◌==◌, true, false}
+use Rattle.std.specs.Prelude.{◌≡◌, ◌≢◌, ℕ, ◌+◌, ◌%◌, ◌/◌, ◌<◌, ◌≤◌, ◌⊎◌, List, [], ◌∷◌, ◌++◌, Option, Some, None, map, max, cond, ◌==◌, true, false}
+use Rattle.std.specs.Int.{bit_at}
 use Rattle.atomic_table.specs.Seated.{TableId}
 use Rattle.atomic_table.specs.Table.{Me}
 use Rattle.demi_port_core.specs.declared.view.Role.TheVariants.{Pass, Device, Note}
 use Rattle.demi_port_core.specs.declared.view.Stage.TheVariants.{Idle}
 use Rattle.demi_port_core.specs.declared.view.View.{View}
 use Rattle.demi_port_core.specs.declared.trail.Trail.{Trail}
-use Rattle.demi_port_core.specs.History.{Each, Among, ground}
+use Rattle.demi_port_core.specs.History.{Each, Among, ground_of}
 use Rattle.demi_port_core.specs.Machine.{token_of, last_round, submitted}
 use Rattle.demi_port_core.specs.Told.{OwesNothing, clear}
 use mathlib.Core.Option.{some}
@@ -32,12 +33,12 @@ pub record PassValue (D T B : Type 0) : Type 0 where
   pub clock : ℕ
   pub looks : List (ℕ × (ℕ × ℕ))
   pub owes : ℕ
-  pub ground : List D
+  pub heard : List D
   pub trail : List (ℕ × T)
   pub floor : ℕ
 
 -- The device's seat: which port's, how many passes the port has, its looks with a time after all of them, the doorbell bits that it took and did not fetch,
--- each operation that it fetched with its place and token, each that it finished with its place and token, and what the outcomes told
+-- each operation that it fetched with its place and token, each that it finished with its place and token, what the outcomes told, and the tokens of which it owes a wake
 pub record DeviceValue (D T B : Type 0) : Type 0 where
   pub port : PortId B
   pub passes : ℕ
@@ -47,6 +48,7 @@ pub record DeviceValue (D T B : Type 0) : Type 0 where
   pub fetched : List (ℕ × (ℕ × D))
   pub finished : List (ℕ × ℕ)
   pub trail : List (ℕ × T)
+  pub owes : ℕ
 
 -- A note: which port's, and the least place that its maker had not seen
 pub record NoteValue (B : Type 0) : Type 0 where
@@ -57,14 +59,15 @@ pub record NoteValue (B : Type 0) : Type 0 where
 pub record EndValue (D T B : Type 0) : Type 0 where
   pub base : B
   pub history : List (ℕ × (ℕ × D))
-  pub ground : List D
+  pub heard : List D
   pub trail : List (ℕ × T)
+  pub floor : ℕ
 
 abbrev pub pass_value : {D T B : Type 0} → TableId → Key B → View D (Key B) → Trail D T → PassValue D T B
-pass_value z k v t = record { port = record { tokens = z; key = k }; number = v.number; seen = v.seen; submitted = v.mine; redeemed = v.redeemed; notes = v.notes; learnt = v.learnt; clock = v.clock; looks = v.looks; owes = v.owes; ground = t.heard; trail = t.told; floor = t.floor }
+pass_value z k v t = record { port = record { tokens = z; key = k }; number = v.number; seen = v.seen; submitted = v.mine; redeemed = v.redeemed; notes = v.notes; learnt = v.learnt; clock = v.clock; looks = v.looks; owes = v.owes; heard = t.heard; trail = t.told; floor = t.floor }
 
 abbrev pub device_value : {D T B : Type 0} → TableId → Key B → View D (Key B) → Trail D T → DeviceValue D T B
-device_value z k v t = record { port = record { tokens = z; key = k }; passes = v.number; clock = v.clock; looks = v.looks; rang = v.rang; fetched = v.fetched; finished = v.finished; trail = t.told }
+device_value z k v t = record { port = record { tokens = z; key = k }; passes = v.number; clock = v.clock; looks = v.looks; rang = v.rang; fetched = v.fetched; finished = v.finished; trail = t.told; owes = v.owes }
 
 -- the seats of a pass between two calls
 pub record FitsPass {S R D T B : Type 0} (key : Key B) (records : TableId) (me : Me S (View D (Key B))) (knows : Me R (Trail D T)) : Type 0 where
@@ -98,7 +101,7 @@ pub record FitsDevice {S R D T B : Type 0} (key : Key B) (records : TableId) (co
   pub device : knows.0.device ≡ true
   pub handed : knows.0.handed ≡ []
   pub bare : knows.1 ≡ []
-  pub ground : StartsWith (ground me.0.fetched) knows.0.heard
+  pub begins : StartsWith (ground_of me.0.fetched) knows.0.heard
   pub floor : knows.0.floor ≡ above_all me.0.finished
   pub left : Each (IsLeft count me.0.finished me.0.pending) me.0.fetched
   pub paid : OwesNothing me.0
@@ -117,13 +120,34 @@ Missed v w i = (n : ℕ) × Saw v w (i + 3) n × (((n % 8 ≢ 0) ⊎ (1099511627
 
 -- a pass that has done nothing
 abbrev pub IsNewPass : {D T B : Type 0} → PortId B → ℕ → PassValue D T B → Type 0
-IsNewPass port n p = p ≡ record { port = port; number = n; seen = 0; submitted = []; redeemed = []; notes = 0; learnt = 0; clock = 0; looks = []; owes = 0; ground = []; trail = []; floor = 0 }
+IsNewPass port n p = p ≡ record { port = port; number = n; seen = 0; submitted = []; redeemed = []; notes = 0; learnt = 0; clock = 0; looks = []; owes = 0; heard = []; trail = []; floor = 0 }
 
 -- of what a pass knows of the outside
 abbrev pub known_by : {D T B : Type 0} → PassValue D T B → Trail D T
-known_by p = record { device = false; heard = p.ground; told = p.trail; floor = p.floor; handed = [] }
+known_by p = record { device = false; heard = p.heard; told = p.trail; floor = p.floor; handed = [] }
 
 -- at a step of a call that brought the pass from v to w, it found a word of the token's index, of which F holds. Nothing else changed, but that a look at a token that is not done pays what the pass owed of it
 abbrev pub Found : {D T B : Type 0} → PassValue D T B → PassValue D T B → ℕ → (ℕ → Type 0) → Type 0
 Found v w token F = (t : ℕ) × (n : ℕ) × (v.clock ≤ t) × F n
     × (w ≡ record v { clock = t + 1; looks = v.looks ++ (t, (token % 1024 + 3, n)) ∷ []; owes = cond (n % 8 == 2) v.owes (clear (token % 1024) v.owes) })
+
+-- no wake is owed
+abbrev pub NoneOwed : ℕ → Type 0
+NoneOwed owes = (q : ℕ) → q < 64 → bit_at owes q ≡ 0
+
+-- the passes of a new port, from the number n on
+abbrev pub NewFrom : {D T B : Type 0} → PortId B → ℕ → List (PassValue D T B) → Type 0
+NewFrom port n [] = Unit {0}
+NewFrom port n (p ∷ ps) = IsNewPass port n p × NewFrom port (n + 1) ps
+
+-- the seat of a new port's device
+abbrev pub IsNewSeat : {D T B : Type 0} → PortId B → ℕ → DeviceValue D T B → Type 0
+IsNewSeat port n s = s ≡ record { port = port; passes = n; clock = 0; looks = []; rang = 0; fetched = []; finished = []; trail = []; owes = 0 }
+
+-- what the device knew of the outside at the end
+abbrev pub known_at : {D T B : Type 0} → EndValue D T B → Trail D T
+known_at e = record { device = false; heard = e.heard; told = e.trail; floor = e.floor; handed = [] }
+
+-- what each place says
+abbrev pub says : {D : Type 0} → List (ℕ × (ℕ × D)) → List D
+says h = map (λ e. e.1.1) h

@@ -41,8 +41,8 @@ impl<L: Law> Port<L> {
     /// The pass then knows the ground and the trail that the outcome stands on, by which the law admits it, and none of them is ever taken back.
     pub fn try_wait(&self, pass: &mut PortPass<L>, token: Token) -> Redeem<L::Out>
         requires port { pass.old.port ≡ self.now }
-        ensures ready { IfReady result (λ p out. L.admits self.now.key.base pass.new.ground pass.new.trail p out × (p < pass.new.floor)) }
-        ensures redeemed { IfReady result (λ p _. pass.new ≡ record pass.old { clock = pass.new.clock; looks = pass.new.looks; redeemed = pass.old.redeemed ++ (p, token.0) ∷ []; owes = clear (token.0 % 1024) pass.old.owes; ground = pass.new.ground; trail = pass.new.trail; floor = pass.new.floor }) }
+        ensures ready { IfReady result (λ p out. L.admits self.now.key.base pass.new.heard pass.new.trail p out × (p < pass.new.floor)) }
+        ensures redeemed { IfReady result (λ p _. pass.new ≡ record pass.old { clock = pass.new.clock; looks = pass.new.looks; redeemed = pass.old.redeemed ++ (p, token.0) ∷ []; owes = clear (token.0 % 1024) pass.old.owes; heard = pass.new.heard; trail = pass.new.trail; floor = pass.new.floor }) }
         ensures own { IfReady result (λ p _. (q : ℕ) (d : L.Said) → Among (q, (token.0, d)) pass.old.submitted → q ≡ p) }
         ensures once { IfReady result (λ _ _. times token.0 pass.old.redeemed ≡ 0) }
         ensures grows { Behind (known_by pass.new) (known_by pass.old) }

@@ -1,7 +1,7 @@
 use Rattle.std.proofs.Common.{rules, ◌≡◌, ℕ, ◌+◌, ◌<◌, ◌≤◌, List, [], ◌∷◌, max, refl, ap, sym, ◌∙◌, arith, Some, None}
 use Rattle.atomic_table.specs.Table.{rest}
 use Rattle.demi_port_core.specs.declared.view.Slip.TheVariants.{Answered}
-use Rattle.demi_port_core.specs.History.{ground}
+use Rattle.demi_port_core.specs.History.{ground_of}
 use Rattle.demi_port_core.specs.Trails.{grown, copy_of}
 use Rattle.demi_port_core.proofs.Lists.{ground_heard}
 use Rattle.demi_port_core.proofs.Trails.{grown_behind}
@@ -22,7 +22,7 @@ store-requires g c = let tok = c.copy-beside.ensures.tokens ∙ c.extend.ensures
           (λ s r at. (
             c.copy-beside.ensures.copy.0 ∙ sym c.args.self.now.tied,
             (
-              copy_of (grown (ground v.fetched) p (g.L.Law.told c.args.out) c.args.seat.now.record.me.0),
+              copy_of (grown (ground_of v.fetched) p (g.L.Law.told c.args.out) c.args.seat.now.record.me.0),
               c.copy-beside.ensures.copy.1 ∙ ap (λ t. copy_of t ∷ []) c.extend.ensures.view,
               (refl, ground_heard r.log v.fetched (r.seats.each_seat _ v at).fetched, c.requires.admitted, above),
             ),

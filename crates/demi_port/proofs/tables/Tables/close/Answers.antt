@@ -2,7 +2,7 @@ use Rattle.std.proofs.Common.{rules, ◌≡◌, ◌≢◌, ℕ, ◌+◌, ◌<◌
 use mathlib.Core.Option.{some}
 use lib.ListN.{get_elem?}
 use Rattle.demi_port_core.specs.declared.view.Role.TheVariants.{Device, Spent}
-use Rattle.demi_port_core.specs.History.{of_pass, total, times, Each, Among, HeardIn, ground}
+use Rattle.demi_port_core.specs.History.{of_pass, total, times, Each, Among, HeardIn, ground_of}
 use Rattle.demi_port_core.specs.Machine.{submitted, IsRedeemed}
 use Rattle.demi_port_core.specs.Told.{HasAll}
 use Rattle.demi_port_core.specs.Trails.{Behind, handed_over, copy_of}
@@ -44,9 +44,9 @@ pub returns-clause-redeemed : goal.returns-clause-redeemed
 returns-clause-redeemed g c = let t = c.load-tickets.ensures.2 in let hist = ap (λ m. m.0.history) c.split_seat-seat.ensures.4 ∙ ap (λ v. v.history) t.1 in
     subst (λ l. Each (λ p. Each (IsRedeemed l) p.seat.me.0.redeemed) c.args.passes.items) (sym hist) (closed_redeemed (λ p. p.seat.me.0) c.gather_all.new.device.seat.me.0 c.args.passes.items c.gather_all.ensures.all t.0 t.5)
 
-pub returns-clause-ground : goal.returns-clause-ground
-returns-clause-ground g c = let t = c.load-tickets.ensures.2 in let hist = ap (λ m. m.0.history) c.split_seat-seat.ensures.4 ∙ ap (λ v. v.history) t.1 in
-    subst (λ l. HeardIn l (ground c.args.device.seat.me.0.fetched)) (sym hist) (subst (λ f. HeardIn t.0 (ground f)) c.gather_all.ensures.still.3 t.7)
+pub returns-clause-heard : goal.returns-clause-heard
+returns-clause-heard g c = let t = c.load-tickets.ensures.2 in let hist = ap (λ m. m.0.history) c.split_seat-seat.ensures.4 ∙ ap (λ v. v.history) t.1 in
+    subst (λ l. HeardIn l (ground_of c.args.device.seat.me.0.fetched)) (sym hist) (subst (λ f. HeardIn t.0 (ground_of f)) c.gather_all.ensures.still.3 t.7)
 
 pub split_seat-record-requires : goal.split_seat-record-requires
 split_seat-record-requires g c = (search rules, search rules, copies _ _)
