@@ -79,7 +79,6 @@ impl<L: Law> Port<L> {
         requires port { (pass.old.port ≡ self.now) × (note.port ≡ self.now) }
         ensures { pass.new ≡ record pass.old { seen = max pass.old.seen note.seen; learnt = pass.old.learnt + 1 } }
     {
-        let Note { seat, key: _ } = note;
-        self.tables.learn(&mut pass.pair, seat);
+        self.tables.learn(&mut pass.pair, note.into_seat());
     }
 }
