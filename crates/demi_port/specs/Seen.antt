@@ -8,7 +8,7 @@ use Rattle.demi_port_core.specs.declared.view.Stage.TheVariants.{Idle}
 use Rattle.demi_port_core.specs.declared.view.View.{View}
 use Rattle.demi_port_core.specs.declared.trail.Trail.{Trail}
 use Rattle.demi_port_core.specs.History.{Each, Among, ground_of}
-use Rattle.demi_port_core.specs.Machine.{token_of, last_round, submitted}
+use Rattle.demi_port_core.specs.Machine.{token_of, last_round, submitted, bare_view}
 use Rattle.demi_port_core.specs.Told.{OwesNothing, clear}
 use mathlib.Core.Option.{some}
 use lib.ListN.{get_elem?}
@@ -151,3 +151,7 @@ known_at e = record { device = false; heard = e.heard; told = e.trail; floor = e
 -- what each place says
 abbrev pub says : {D : Type 0} → List (ℕ × (ℕ × D)) → List D
 says h = map (λ e. e.1.1) h
+
+-- what the token table knew of a pass
+abbrev pub shown : {D T B : Type 0} → PassValue D T B → View D (Key B)
+shown p = record (bare_view Pass (Some p.port.key)) { number = p.number; mine = p.submitted; redeemed = p.redeemed; notes = p.notes; learnt = p.learnt; owes = p.owes }
