@@ -25,7 +25,7 @@ above_snoc : (l : List (ℕ × ℕ)) (x : ℕ × ℕ) → above_all (l ++ x ∷ 
 above_snoc [] x = omega arith
 above_snoc (y ∷ ys) x = let h = above_snoc ys x in omega arith
 
-starts_more : {A : Type 0} (xs ys zs : List A) → StartsWith xs ys → StartsWith ys zs → StartsWith xs zs
+pub starts_more : {A : Type 0} (xs ys zs : List A) → StartsWith xs ys → StartsWith ys zs → StartsWith xs zs
 starts_more xs ys zs a b = (b.0 ++ a.0, a.1 ∙ ap (λ l. l ++ a.0) b.1 ∙ append_assoc zs b.0 a.0)
 
 module _ {D : Type 0} (count : ℕ) (finished : List (ℕ × ℕ)) (pending : List (ℕ × (ℕ × ℕ))) (l : List (ℕ × (ℕ × D))) (left : Each (IsLeft count finished pending) l) where
