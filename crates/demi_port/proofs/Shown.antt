@@ -1,5 +1,5 @@
 -- What a step at the tables shows of a pass.
-use Rattle.std.proofs.Common.{◌≡◌, ◌≢◌, ℕ, ◌+◌, ◌%◌, ◌/◌, ◌<◌, ◌≤◌, List, [], ◌∷◌, ◌++◌, max, bit_or, sym, refl, ap, ◌∙◌, subst}
+use Rattle.std.proofs.Common.{◌≡◌, ℕ, ◌+◌, ◌<◌, max, bit_or, sym, ap, ◌∙◌, subst}
 use Rattle.std.specs.Int.Bits.{or_zero_r}
 use Rattle.atomic_table.specs.Seated.{TableId}
 use Rattle.demi_port_core.specs.declared.view.View.{View}

@@ -8,25 +8,23 @@ ghost use Rattle.demi_port_core.specs.Trails.{Behind};
 ghost use Rattle.demi_port_core.specs.Tries.{IfReady, IfNotYet, IfSpent, IfUnknown};
 ghost use Rattle.demi_port.specs.Seen.{OnlyLooked, Missed, Found, known_by};
 
+use crate::note::Note;
 use crate::pass::PortPass;
 use crate::port::Port;
-use crate::note::Note;
 use demi_port_core::{Bits, Law, Mask, Place, Redeem, Token};
 
 /// No token could be had. The operation comes back.
+#[derive(Drop)]
 pub struct TokensFull<L: Law>(pub L::Op);
 
 impl<L: Law> Port<L> {
     /// Puts the operation into the history, and gives its token and its place, which is above each that the pass had seen.
     /// It looks at the tokens from index 0 upward, and takes no memory.
     /// `TokensFull` only where each token, at a step of its own in this call, was not free, was worn, or had another word than this call had just found.
-    pub fn submit(
-        &self,
-        pass: &mut PortPass<L>,
-        op: L::Op,
-    ) -> Result<(Token, Place), TokensFull<L>>
+    pub fn submit(&self, pass: &mut PortPass<L>, op: L::Op) -> Result<(Token, Place), TokensFull<L>>
         requires port { pass.old.port ≡ self.now }
         requires proper { L.proper self.now.key.base (L.said op) }
+        ensures same { (pass.new.port ≡ pass.old.port) × (pass.new.number ≡ pass.old.number) }
         ensures ok { IfOk result (λ r. (pass.old.seen ≤ r.1.0) × (pass.new ≡ record pass.old { clock = pass.new.clock; looks = pass.new.looks; seen = r.1.0 + 1; submitted = pass.old.submitted ++ (r.1.0, (r.0.0, L.said op)) ∷ [] })) }
         ensures full { IfErr result (λ e. (e.0 ≡ op) × OnlyLooked pass.old pass.new × ((i : ℕ) → i < self.now.tokens.slots → Missed pass.old pass.new i)) }
     {
@@ -41,6 +39,7 @@ impl<L: Law> Port<L> {
     /// The pass then knows the ground and the trail that the outcome stands on, by which the law admits it, and none of them is ever taken back.
     pub fn try_wait(&self, pass: &mut PortPass<L>, token: Token) -> Redeem<L::Out>
         requires port { pass.old.port ≡ self.now }
+        ensures same { (pass.new.port ≡ pass.old.port) × (pass.new.number ≡ pass.old.number) }
         ensures ready { IfReady result (λ p out. L.admits self.now.key.base pass.new.heard pass.new.trail p out × (p < pass.new.floor)) }
         ensures redeemed { IfReady result (λ p _. pass.new ≡ record pass.old { clock = pass.new.clock; looks = pass.new.looks; redeemed = pass.old.redeemed ++ (p, token.0) ∷ []; owes = clear (token.0 % 1024) pass.old.owes; heard = pass.new.heard; trail = pass.new.trail; floor = pass.new.floor }) }
         ensures own { IfReady result (λ p _. (q : ℕ) (d : L.Said) → Among (q, (token.0, d)) pass.old.submitted → q ≡ p) }

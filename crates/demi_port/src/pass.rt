@@ -1,6 +1,7 @@
 //! A pass of a port.
 ghost use Rattle.std.specs.Prelude.{◌≡◌};
 ghost use Rattle.demi_port.specs.Seen.{FitsPass, pass_value};
+
 use crate::key::Key;
 use crate::tables::SeatPair;
 use demi_port_core::Law;

@@ -32,4 +32,3 @@ impl<D, T> TableRule<(), Trail<D, T>, ()> for Records {
 
     ghost first = { λ _. first_trail };
 }
-

@@ -1,8 +1,8 @@
-use Rattle.std.proofs.Common.{rules, ◌≡◌, ◌≢◌, ℕ, ◌+◌, ◌<◌, List, [], ◌∷◌, length, le_trans, ◌≤◌, refl, ap, sym, ◌∙◌, subst, arith}
+use Rattle.std.proofs.Common.{rules, ◌≡◌, ℕ, ◌<◌, length, ap, sym, ◌∙◌, subst, arith}
 use mathlib.Core.Option.{some}
 use lib.ListN.{get_elem?}
 use Rattle.demi_port_core.specs.declared.view.Role.TheVariants.{Device, Spent}
-use Rattle.demi_port_core.specs.History.{of_pass, total, times, Each, Among, HeardIn, ground_of}
+use Rattle.demi_port_core.specs.History.{of_pass, Each, Among, HeardIn, ground_of}
 use Rattle.demi_port_core.specs.Machine.{submitted, IsRedeemed}
 use Rattle.demi_port_core.specs.Told.{HasAll}
 use Rattle.demi_port_core.specs.Trails.{Behind, handed_over, copy_of}

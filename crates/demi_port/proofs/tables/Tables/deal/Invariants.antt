@@ -1,4 +1,4 @@
-use Rattle.std.proofs.Common.{◌≡◌, ◌+◌, [], length, vec_capacity}
+use Rattle.std.proofs.Common.{◌≡◌, [], length, vec_capacity}
 use Rattle.demi_port_core.specs.Machine.{first_view}
 use Rattle.demi_port_core.specs.Trails.{first_trail}
 use Rattle.demi_port.specs.Seen.{NewFrom}

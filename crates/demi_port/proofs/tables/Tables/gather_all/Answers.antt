@@ -1,9 +1,9 @@
-use Rattle.std.proofs.Common.{rules, ◌≡◌, ℕ, ◌+◌, List, [], ◌∷◌, ◌++◌, length, refl, ap, sym, ◌∙◌, subst, arith}
-use Rattle.demi_port_core.specs.History.{total, times, Each, Among, TakenFrom}
+use Rattle.std.proofs.Common.{rules, ◌≡◌, [], ◌++◌, length, refl, ap, sym, ◌∙◌, subst, arith}
+use Rattle.demi_port_core.specs.History.{times, Among, TakenFrom}
 use Rattle.demi_port_core.specs.Machine.{submitted}
 use Rattle.demi_port_core.specs.Trails.{handed_over}
 use Rattle.demi_port_core.specs.Told.{HasPass}
-use Rattle.demi_port_core.proofs.Lists.{each_more, times_append, each_last, snoc_total, taken_none, taken_more, taken_all}
+use Rattle.demi_port_core.proofs.Lists.{each_more, times_append, each_last, snoc_total, taken_more, taken_all}
 use Rattle.demi_port_core.proofs.Trails.{handed_more, handed_new}
 use Rattle.demi_port_core.proofs.Closes.{has_more, has_new, gathered_counts}
 use Rattle.demi_port.specs.Seen.{shown, known_by}

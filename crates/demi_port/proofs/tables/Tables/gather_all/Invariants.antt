@@ -1,8 +1,6 @@
-use Rattle.std.proofs.Common.{◌≡◌, ℕ, ◌+◌, [], length, false}
+use Rattle.std.proofs.Common.{◌≡◌, ℕ, ◌+◌, length}
 use Rattle.demi_port_core.specs.History.{total, times, Each, Among, TakenFrom}
 use Rattle.demi_port_core.specs.Machine.{submitted}
-use Rattle.demi_port_core.specs.declared.view.Role.TheVariants.{Pass, Device}
-use Rattle.demi_port_core.specs.declared.view.Stage.TheVariants.{Idle}
 use Rattle.demi_port_core.specs.Trails.{handed_over, SameTrail}
 use Rattle.demi_port_core.specs.Told.{HasPass, GoneOn}
 use Rattle.demi_port.specs.Seen.{shown, known_by}

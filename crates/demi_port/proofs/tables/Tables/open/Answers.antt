@@ -1,6 +1,4 @@
-use Rattle.std.proofs.Common.{rules, ◌≡◌, ℕ, ◌+◌, ◌≤◌, List, replicate, subst, sym, ◌∙◌, refl}
-use Rattle.atomic_table.specs.Table.{opening}
-use Rattle.demi_port_core.specs.Machine.{Kept, first_view}
+use Rattle.std.proofs.Common.{rules, ◌≡◌, ℕ, ◌+◌, ◌≤◌, replicate, refl}
 use Rattle.demi_port_core.proofs.Trails.{begins}
 use Rattle.demi_port_core.proofs.Starts.{starts}
 use Rattle.demi_port.proofs.tables.Tables.open.Goals as goal

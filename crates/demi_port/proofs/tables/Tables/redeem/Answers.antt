@@ -1,8 +1,6 @@
-use Rattle.std.proofs.Common.{rules, ◌≡◌, ℕ, ◌+◌, ◌*◌, ◌<◌, List, [], ◌∷◌, refl, ap, sym, ◌∙◌, subst, arith, Some, None}
-use Rattle.std.specs.Prelude.{Option}
+use Rattle.std.proofs.Common.{rules, ◌≡◌, ℕ, ◌<◌, ap, sym, ◌∙◌, subst, arith, Some}
 use Rattle.demi_port_core.specs.History.{Among}
 use Rattle.demi_port_core.specs.Machine.{token_of}
-use Rattle.demi_port_core.specs.declared.view.Slip.{Slip}
 use Rattle.atomic_table.specs.Table.{rest}
 use Rattle.demi_port_core.specs.declared.view.Slip.TheVariants.{Answered}
 use Rattle.demi_port_core.specs.Answers.{answers_by}

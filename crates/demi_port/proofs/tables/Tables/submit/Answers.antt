@@ -1,4 +1,4 @@
-use Rattle.std.proofs.Common.{rules, ◌≡◌, ℕ, ◌+◌, ◌*◌, ◌<◌, ◌≤◌, refl, ap, sym, ◌∙◌, arith}
+use Rattle.std.proofs.Common.{rules, ℕ, ◌<◌, ◌≤◌, ◌∙◌, arith}
 use Rattle.demi_port_core.proofs.Sights.{later_more, missed_next}
 use Rattle.demi_port.proofs.tables.Tables.submit.Goals as goal
 

@@ -1,4 +1,4 @@
-use Rattle.std.proofs.Common.{◌≡◌, ℕ, ◌<◌, ◌≤◌, [], Some}
+use Rattle.std.proofs.Common.{◌≡◌, ℕ, ◌<◌, [], Some}
 use Rattle.demi_port_core.specs.declared.view.Slip.TheVariants.{Asked}
 use Rattle.demi_port_core.specs.Told.{Later, Missed}
 use Rattle.demi_port.proofs.tables.Tables.submit.Given as goal

@@ -1,4 +1,4 @@
-use Rattle.std.proofs.Common.{rules, ◌≡◌, ◌≢◌, ℕ, ◌+◌, ◌*◌, ◌%◌, ◌/◌, ◌<◌, ◌≤◌, inl, inr, refl, ap, sym, ◌∙◌, arith, None, ◌∷◌}
+use Rattle.std.proofs.Common.{◌≢◌, ℕ, ◌+◌, ◌*◌, ◌/◌, ◌≤◌, inl, inr, refl, ap, ◌∙◌, arith, None, ◌∷◌}
 use Rattle.demi_port_core.specs.Told.{looking}
 use Rattle.demi_port_core.proofs.Sights.{later_look, later_same, missed_word, missed_race}
 use Rattle.demi_port.proofs.tables.Tables.try_token.Goals as goal
