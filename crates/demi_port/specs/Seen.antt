@@ -8,7 +8,8 @@ use Rattle.demi_port_core.specs.declared.view.Stage.TheVariants.{Idle}
 use Rattle.demi_port_core.specs.declared.view.View.{View}
 use Rattle.demi_port_core.specs.declared.trail.Trail.{Trail}
 use Rattle.demi_port_core.specs.History.{Each, Among, ground_of}
-use Rattle.demi_port_core.specs.Machine.{token_of, last_round, submitted, bare_view}
+use Rattle.demi_port_core.specs.Phases.{token_of, last_round}
+use Rattle.demi_port_core.specs.Seats.{submitted, bare_view}
 use Rattle.demi_port_core.specs.Told.{OwesNothing, clear}
 use mathlib.Core.Option.{some}
 use lib.ListN.{get_elem?}

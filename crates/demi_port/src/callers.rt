@@ -2,7 +2,7 @@
 ghost use Rattle.std.specs.Prelude.{◌≡◌, ℕ, ◌+◌, ◌*◌, ◌/◌, ◌%◌, ◌<◌, ◌≤◌, ◌⊎◌, [], ◌∷◌, ◌++◌, IfOk, IfErr, max, replicate, bit_and, bit_or, slice_index_or};
 ghost use Rattle.std.specs.Int.{bit_not, w64};
 ghost use Rattle.demi_port_core.specs.History.{Among, times};
-ghost use Rattle.demi_port_core.specs.Machine.{last_round};
+ghost use Rattle.demi_port_core.specs.Phases.{last_round};
 ghost use Rattle.demi_port_core.specs.Told.{clear};
 ghost use Rattle.demi_port_core.specs.Trails.{Behind};
 ghost use Rattle.demi_port_core.specs.Tries.{IfReady, IfNotYet, IfSpent, IfUnknown};

@@ -2,7 +2,7 @@
 ghost use Rattle.std.specs.Prelude.{◌≡◌, ◌≢◌, ℕ, ◌+◌, ◌%◌, ◌/◌, ◌<◌, ◌≤◌, [], ◌∷◌, ◌++◌, length, replicate, bit_or};
 ghost use Rattle.std.specs.Int.{bit_at};
 ghost use Rattle.demi_port_core.specs.History.{Among, Each, ground_of};
-ghost use Rattle.demi_port_core.specs.Machine.{last_round};
+ghost use Rattle.demi_port_core.specs.Phases.{last_round};
 ghost use Rattle.demi_port_core.specs.Told.{clear};
 ghost use Rattle.demi_port_core.specs.Trails.{MayTell, told_at};
 ghost use Rattle.demi_port.specs.Seen.{above_all, NoneOwed};

@@ -3,7 +3,7 @@ ghost use Rattle.std.specs.Prelude.{◌≡◌, ℕ, ◌<◌, ◌≤◌, length};
 ghost use mathlib.Core.Option.{some};
 ghost use lib.ListN.{get_elem?};
 ghost use Rattle.demi_port_core.specs.History.{AnyOf, Each, ground_of, of_pass, times, total};
-ghost use Rattle.demi_port_core.specs.Machine.{IsRedeemed};
+ghost use Rattle.demi_port_core.specs.Entries.{IsRedeemed};
 ghost use Rattle.demi_port_core.specs.Trails.{Behind, StartsWith};
 ghost use Rattle.demi_port.specs.Seen.{known_at, known_by, says};
 
