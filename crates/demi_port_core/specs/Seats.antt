@@ -1,5 +1,5 @@
 -- The rule of the seats: what each knows of the history and the tokens, and what it owes.
-use Rattle.std.specs.Prelude.{◌≡◌, ◌≢◌, ℕ, suc, ◌+◌, ◌<◌, ◌≤◌, ◌⊎◌, List, [], ◌∷◌, length, Option, Some, None, slice_index_or}
+use Rattle.std.specs.Prelude.{◌≡◌, ◌≢◌, ℕ, suc, ◌+◌, ◌<◌, ◌≤◌, ◌⊎◌, List, [], length, Option, Some, None, slice_index_or}
 use Rattle.std.specs.Int.{bit_at}
 use mathlib.Core.Option.{some}
 use lib.ListN.{get_elem?}
@@ -9,7 +9,7 @@ use Rattle.demi_port_core.specs.declared.view.Stage.{Stage}
 use Rattle.demi_port_core.specs.declared.view.Stage.TheVariants.{Idle, Held, Drawn, Opened, Redeeming}
 use Rattle.demi_port_core.specs.declared.view.View.{View}
 use Rattle.demi_port_core.specs.History.{of_pass, total, times, Each, Apart}
-use Rattle.demi_port_core.specs.Phases.{Phase, held, drawn, opened, answering, done, redeeming, Cell, redeem_count, fetch_count, finish_count, got, keeper, token_of}
+use Rattle.demi_port_core.specs.Phases.{held, drawn, opened, answering, done, redeeming, Cell, redeem_count, fetch_count, finish_count, got, keeper, token_of}
 use Rattle.demi_port_core.specs.Entries.{IsFetched, Before, IsReaped, IsFinished}
 
 -- at the time the word had the value

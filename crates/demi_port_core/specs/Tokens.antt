@@ -1,6 +1,6 @@
 -- The rule of the tokens: what their words, doorbell bits and slots show.
 -- Word 0 is the ticket, word 1 the doorbells, word 2 the waker bits, and word i + 3 that of token i.
-use Rattle.std.specs.Prelude.{◌≡◌, ℕ, ◌+◌, ◌*◌, ◌<◌, ◌≤◌, List, length, Option, Some, None, slice_index_or}
+use Rattle.std.specs.Prelude.{◌≡◌, ℕ, ◌+◌, ◌<◌, ◌≤◌, List, length, Option, Some, None, slice_index_or}
 use Rattle.std.specs.Int.{bit_at}
 use mathlib.Core.Option.{some}
 use mathlib.Core.Option as maybe

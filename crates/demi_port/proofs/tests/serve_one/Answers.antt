@@ -1,4 +1,4 @@
-use Rattle.std.proofs.Common.{rules, ◌≡◌, ◌≢◌, inl, ℕ, ◌+◌, ◌*◌, ◌<◌, ◌≤◌, List, [], ◌∷◌, ◌++◌, map, length, bit_or, zero-add, refl, ap, sym, subst, ◌∙◌, arith}
+use Rattle.std.proofs.Common.{◌≡◌, ◌≢◌, inl, ℕ, ◌+◌, ◌<◌, List, [], ◌∷◌, ◌++◌, map, length, bit_or, refl, ap, sym, subst, ◌∙◌, arith}
 use Rattle.std.specs.Int.{bit_at}
 use Rattle.std.proofs.lemmas.Nat.Bits.{bit_at_or}
 use mathlib.Core.Option.{some}
@@ -23,7 +23,7 @@ finish-requires-clause-fetched c κs = let b = c.take.ensures.bells in let e = b
     let ended : old.finished ≡ map {B = ℕ × ℕ} (λ x. (x.0, x.1.0)) F = ap (λ s. s.finished) e ∙ c.requires.served.1 ∙ ap (λ s. map {B = ℕ × ℕ} (λ x. (x.0, x.1.0)) s.fetched) (sym e) in
     let next : q ≡ length F = next_place F q rising f.fresh (λ n low. subst (λ (z : ℕ). q < n + z) c.requires.port.1 (f.near n (subst (Each (λ (x : ℕ × ℕ). x.0 < n)) (sym ended) low))) in
     let fe = ap (λ s. s.fetched) f.fetched in let ne = ap (λ s. s.finished) f.fetched ∙ ended in
-    let among = subst (Among (q, (t, d))) (sym fe) (among_right (q, (t, d)) F ((q, (t, d)) ∷ []) (inl refl)) in let other = subst (Each (λ (x : ℕ × ℕ). x.0 ≢ q)) (sym ne) (others_finished F q f.fresh) in 
+    let among = subst (Among (q, (t, d))) (sym fe) (among_right (q, (t, d)) F ((q, (t, d)) ∷ []) (inl refl)) in let other = subst (Each (λ (x : ℕ × ℕ). x.0 ≢ q)) (sym ne) (others_finished F q f.fresh) in
     (q, d, among, other, tt, (d, subst (λ l. get_elem? (ground_of l) q ≡ some d) (sym fe) (ground_last F q t d rising next), omega arith))
 
 pub returns-then-has-clause-same : goal.returns-then-has-clause-same
