@@ -1,0 +1,17 @@
+//! A port.
+use crate::tables::Tables;
+use demi_port_core::Law;
+use std::marker::Model;
+
+/// Tokens for operations, which stand in one history. Any number of threads may share it, each with a pass of its own.
+pub struct Port<L: Law> {
+    pub(crate) tables: Tables<L>,
+}
+
+impl<L: Law> Model for Port<L> {
+    ghost use Rattle.demi_port.specs.Seen.{PortId};
+
+    ghost Value = { PortId L.Base };
+
+    ghost view = { λ p. record { tokens = p.tables.table.shared.table_id; key = p.tables.table.shared.key } };
+}
