@@ -86,6 +86,18 @@ fn run_of(alloc: Global, words: &[&str], setup: &Setup) -> Result<Left, Fail> {
     })
 }
 
+// How many bytes a source gives at most in one read: each, and all.
+const PIECES: [usize; 6] = [1, 2, 3, 7, 4096, 100_000];
+
+// A run of `pipe` over an input that comes in pieces of this length.
+fn run_in_pieces(alloc: Global, input: &[u8], piece: usize) -> Result<Left, Fail> {
+    let cut = Setup {
+        piece,
+        ..on_an_empty_log(input)
+    };
+    run_of(alloc, &["pipe", "L"], &cut)
+}
+
 const PUTS_AND_GETS: &[u8] =
     b"\x01\x01\x00\x00\x00\x01a1\x02\x01\x00\x00\x00\x00a\x01\x01\x00\x00\x00\x01a2\x02\x01\x00\x00\x00\x00a\x03\x00\x00\x00\x00\x00";
 
@@ -131,11 +143,13 @@ fn requests_are_answered_and_logged(rt: HostRuntime) -> Result<(), Fail> {
         ),
     ];
     for (name, input, output, log) in rows {
-        let left = run_of(rt.alloc(), &["pipe", "L"], &on_an_empty_log(input))?;
-        assert_eq!(rt; left.status, 0, "{name}");
-        assert_eq!(rt; left.output.as_slice(), output, "{name}");
-        assert_eq!(rt; left.log.as_slice(), log, "{name}");
-        assert_eq!(rt; left.warned.len(), 0, "{name}");
+        for piece in PIECES {
+            let left = run_in_pieces(rt.alloc(), input, piece)?;
+            assert_eq!(rt; left.status, 0, "{name}");
+            assert_eq!(rt; left.output.as_slice(), output, "{name}");
+            assert_eq!(rt; left.log.as_slice(), log, "{name}");
+            assert_eq!(rt; left.warned.len(), 0, "{name}");
+        }
     }
     Ok(())
 }
@@ -201,35 +215,13 @@ fn refused_frames_are_answered_with_their_codes(rt: HostRuntime) -> Result<(), F
         ),
     ];
     for (name, input, output, log, warned) in rows {
-        let left = run_of(rt.alloc(), &["pipe", "L"], &on_an_empty_log(input))?;
-        assert_eq!(rt; left.status, 6, "{name}");
-        assert_eq!(rt; left.output.as_slice(), output, "{name}");
-        assert_eq!(rt; left.log.as_slice(), log, "{name}");
-        assert_eq!(rt; left.warned.as_slice(), warned, "{name}");
-    }
-    Ok(())
-}
-
-#[test]
-fn pieces_of_any_length_give_the_same_output(rt: HostRuntime) -> Result<(), Fail> {
-    let refused = b"\x01\x01\x00\x00\x00\x01a1\x01\x01\x00";
-    for piece in [1, 2, 3, 7, 4096, 100_000] {
-        let whole = Setup {
-            piece,
-            ..on_an_empty_log(PUTS_AND_GETS)
-        };
-        let left = run_of(rt.alloc(), &["pipe", "L"], &whole)?;
-        assert_eq!(rt; left.output.as_slice(), THEIR_REPLIES);
-        assert_eq!(rt; left.log.as_slice(), THEIR_LOG);
-        let cut = Setup {
-            piece,
-            ..on_an_empty_log(refused)
-        };
-        let left = run_of(rt.alloc(), &["pipe", "L"], &cut)?;
-        assert_eq!(rt;
-            left.output.as_slice(),
-            b"\x81\x00\x00\x00\x00\x00\x00\x00\x00\x01\x00\x00\x00\x00\x00\x00\x00\x01\x00\x00\x00\x011\x84\x00\x00\x00\x00\x00\x00\x00\x00\x02\x00\x00\x00\x00\x00\x00\x00\x00\x00\x00\x00\x01\x05".as_slice()
-        );
+        for piece in PIECES {
+            let left = run_in_pieces(rt.alloc(), input, piece)?;
+            assert_eq!(rt; left.status, 6, "{name}");
+            assert_eq!(rt; left.output.as_slice(), output, "{name}");
+            assert_eq!(rt; left.log.as_slice(), log, "{name}");
+            assert_eq!(rt; left.warned.as_slice(), warned, "{name}");
+        }
     }
     Ok(())
 }
