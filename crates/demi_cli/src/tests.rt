@@ -226,35 +226,104 @@ fn refused_frames_are_answered_with_their_codes(rt: HostRuntime) -> Result<(), F
     Ok(())
 }
 
-#[test]
-fn the_largest_put_goes_through(rt: HostRuntime) -> Result<(), Fail> {
-    let mut input = b"\x01\xff\x00\x01\x00\x00".to_vec(rt.alloc())?;
-    for _ in 0..255 + 65536 {
-        input.push(b'x')?;
+// These bytes, and one byte many times after them.
+fn filled(alloc: Global, front: &[u8], byte: u8, count: usize) -> Result<Vec<u8>, Fail> {
+    let mut all = front.to_vec(alloc)?;
+    for _ in 0..count {
+        all.push(byte)?;
     }
-    let left = run_of(rt.alloc(), &["pipe", "L"], &on_an_empty_log(&input))?;
-    assert_eq!(rt; left.status, 0);
-    assert_eq!(rt; left.output.len(), 22 + 65536);
-    assert_eq!(rt; left.log.len(), 65810);
-    assert_eq!(rt; &left.log[8..12], b"\x00\x01\x01\x06".as_slice());
-    Ok(())
+    Ok(all)
 }
 
 #[test]
-fn a_put_that_comes_in_three_pieces(rt: HostRuntime) -> Result<(), Fail> {
-    let mut input = b"\x01\x09\x00\x00\x07\xd0user:1001".to_vec(rt.alloc())?;
-    for _ in 0..2000 {
-        input.push(b'v')?;
+fn puts_from_bytes_to_bytes(rt: HostRuntime) -> Result<(), Fail> {
+    let largest = filled(rt.alloc(), b"\x01\xff\x00\x01\x00\x00", b'x', 65_791)?;
+    let its_reply = filled(
+        rt.alloc(),
+        b"\x81\x00\x00\x00\x00\x00\x00\x00\x00\x01\x00\x00\x00\x00\x00\x00\x00\x01\x00\x01\x00\x00",
+        b'x',
+        65_536,
+    )?;
+    let its_log = filled(
+        rt.alloc(),
+        b"DEMILOG1\x00\x01\x01\x06\x00\x00\x00\x00\x00\x00\xff",
+        b'x',
+        65_791,
+    )?;
+    let long = filled(rt.alloc(), b"\x01\x09\x00\x00\x07\xd0user:1001", b'v', 2000)?;
+    let long_reply = filled(
+        rt.alloc(),
+        b"\x81\x00\x00\x00\x00\x00\x00\x00\x00\x01\x00\x00\x00\x00\x00\x00\x00\x01\x00\x00\x07\xd0",
+        b'v',
+        2000,
+    )?;
+    let long_log = filled(
+        rt.alloc(),
+        b"DEMILOG1\x00\x00\x07\xe0\x00\x00\x00\x00\x00\x00\x09user:1001",
+        b'v',
+        2000,
+    )?;
+    let rows: [(&str, &[&str], &[u8], u8, &[u8], &[u8], &[u8]); 6] = [
+        (
+            "a put",
+            &["pipe", "L"],
+            b"\x01\x01\x00\x00\x00\x01a1",
+            0,
+            b"\x81\x00\x00\x00\x00\x00\x00\x00\x00\x01\x00\x00\x00\x00\x00\x00\x00\x01\x00\x00\x00\x011",
+            b"DEMILOG1\x00\x00\x00\x09\x00\x00\x00\x00\x00\x00\x01a1",
+            b"",
+        ),
+        ("nothing", &["pipe", "L"], b"", 0, b"", b"DEMILOG1", b""),
+        (
+            "the largest put",
+            &["pipe", "L"],
+            &largest,
+            0,
+            &its_reply,
+            &its_log,
+            b"",
+        ),
+        (
+            "no log is named",
+            &["pipe"],
+            b"\x01\x01\x00\x00\x00\x01a1",
+            1,
+            b"",
+            b"",
+            b"usage: demi pipe, serve, bench, check or log",
+        ),
+        (
+            "no such log",
+            &["pipe", "M"],
+            b"\x01\x01\x00\x00\x00\x01a1",
+            8,
+            b"",
+            b"",
+            b"demi: cannot open",
+        ),
+        (
+            "a put that comes in three pieces",
+            &["pipe", "L"],
+            &long,
+            0,
+            &long_reply,
+            &long_log,
+            b"",
+        ),
+    ];
+    for (name, words, input, status, output, log, warned) in rows {
+        let thousands = Setup {
+            piece: 1000,
+            ..on_an_empty_log(input)
+        };
+        let left = run_of(rt.alloc(), words, &thousands)?;
+        assert_eq!(rt; left.status, status, "{name}");
+        assert_eq!(rt; left.output.as_slice(), output, "{name}");
+        assert_eq!(rt; left.log.as_slice(), log, "{name}");
+        assert_eq!(rt; left.warned.as_slice(), warned, "{name}");
+        let rest = if status == 0 { 0 } else { input.len() };
+        assert_eq!(rt; left.rest, rest, "{name}");
     }
-    let thirds = Setup {
-        piece: 1000,
-        ..on_an_empty_log(&input)
-    };
-    let left = run_of(rt.alloc(), &["pipe", "L"], &thirds)?;
-    assert_eq!(rt; left.status, 0);
-    assert_eq!(rt; left.output.len(), 2022);
-    assert_eq!(rt; left.log.len(), 2028);
-    assert_eq!(rt; &left.log[8..12], b"\x00\x00\x07\xe0".as_slice());
     Ok(())
 }
 
