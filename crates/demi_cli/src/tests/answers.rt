@@ -1,0 +1,138 @@
+// What is answered and logged where nothing fails, in pieces of several lengths.
+use super::in_memory::{Left, PUTS_AND_GETS, Setup, THEIR_LOG, on_an_empty_log, run_of};
+use std::alloc::Global;
+use std::test::Fail;
+
+// How many bytes a source gives at most in one read: each, and all.
+const PIECES: [usize; 6] = [1, 2, 3, 7, 4096, 100_000];
+
+// A run of `pipe` over an input that comes in pieces of this length.
+fn run_in_pieces(alloc: Global, input: &[u8], piece: usize) -> Result<Left, Fail> {
+    let cut = Setup {
+        piece,
+        ..on_an_empty_log(input)
+    };
+    run_of(alloc, &["pipe", "L"], &cut)
+}
+
+const THEIR_REPLIES: &[u8] =
+    b"\x81\x00\x00\x00\x00\x00\x00\x00\x00\x01\x00\x00\x00\x00\x00\x00\x00\x01\x00\x00\x00\x011\x82\x00\x00\x00\x00\x00\x00\x00\x00\x02\x00\x00\x00\x00\x00\x00\x00\x01\x00\x00\x00\x011\x81\x00\x00\x00\x00\x00\x00\x00\x00\x03\x00\x00\x00\x00\x00\x00\x00\x02\x00\x00\x00\x012\x82\x00\x00\x00\x00\x00\x00\x00\x00\x04\x00\x00\x00\x00\x00\x00\x00\x02\x00\x00\x00\x012\x85\x00\x00\x00\x00\x00\x00\x00\x00\x05\x00\x00\x00\x00\x00\x00\x00\x00\x00\x00\x00\x00";
+
+#[test]
+fn requests_are_answered_and_logged(rt: HostRuntime) -> Result<(), Fail> {
+    let rows: [(&str, &[u8], &[u8], &[u8]); 6] = [
+        (
+            "a put",
+            b"\x01\x01\x00\x00\x00\x01a1",
+            b"\x81\x00\x00\x00\x00\x00\x00\x00\x00\x01\x00\x00\x00\x00\x00\x00\x00\x01\x00\x00\x00\x011",
+            b"DEMILOG1\x00\x00\x00\x09\x00\x00\x00\x00\x00\x00\x01a1",
+        ),
+        ("nothing", b"", b"", b"DEMILOG1"),
+        (
+            "a get of a missing key",
+            b"\x02\x01\x00\x00\x00\x00b",
+            b"\x83\x00\x00\x00\x00\x00\x00\x00\x00\x01\x00\x00\x00\x00\x00\x00\x00\x00\x00\x00\x00\x00",
+            b"DEMILOG1",
+        ),
+        (
+            "puts, gets and an end frame",
+            PUTS_AND_GETS,
+            THEIR_REPLIES,
+            THEIR_LOG,
+        ),
+        (
+            "an empty value",
+            b"\x01\x01\x00\x00\x00\x00b\x02\x01\x00\x00\x00\x00b",
+            b"\x81\x00\x00\x00\x00\x00\x00\x00\x00\x01\x00\x00\x00\x00\x00\x00\x00\x01\x00\x00\x00\x00\x82\x00\x00\x00\x00\x00\x00\x00\x00\x02\x00\x00\x00\x00\x00\x00\x00\x01\x00\x00\x00\x00",
+            b"DEMILOG1\x00\x00\x00\x08\x00\x00\x00\x00\x00\x00\x01b",
+        ),
+        (
+            "an end frame and more",
+            b"\x03\x00\x00\x00\x00\x00\x01\x01\x00\x00\x00\x01a1",
+            b"\x85\x00\x00\x00\x00\x00\x00\x00\x00\x01\x00\x00\x00\x00\x00\x00\x00\x00\x00\x00\x00\x00",
+            b"DEMILOG1",
+        ),
+    ];
+    for (name, input, output, log) in rows {
+        for piece in PIECES {
+            let left = run_in_pieces(rt.alloc(), input, piece)?;
+            assert_eq!(rt; left.status, 0, "{name}");
+            assert_eq!(rt; left.output.as_slice(), output, "{name}");
+            assert_eq!(rt; left.log.as_slice(), log, "{name}");
+            assert_eq!(rt; left.warned.len(), 0, "{name}");
+        }
+    }
+    Ok(())
+}
+
+#[test]
+fn refused_frames_are_answered_with_their_codes(rt: HostRuntime) -> Result<(), Fail> {
+    let rows: [(&str, &[u8], &[u8], &[u8], &[u8]); 8] = [
+        (
+            "too long a value",
+            b"\x01\x01\x00\x01\x00\x01",
+            b"\x84\x00\x00\x00\x00\x00\x00\x00\x00\x01\x00\x00\x00\x00\x00\x00\x00\x00\x00\x00\x00\x01\x03",
+            b"DEMILOG1",
+            b"demi: link 0 refused with code 3",
+        ),
+        (
+            "no such kind",
+            b"\x09\x00\x00\x01\x00\x01",
+            b"\x84\x00\x00\x00\x00\x00\x00\x00\x00\x01\x00\x00\x00\x00\x00\x00\x00\x00\x00\x00\x00\x01\x01",
+            b"DEMILOG1",
+            b"demi: link 0 refused with code 1",
+        ),
+        (
+            "no key",
+            b"\x01\x00\x00\x01\x00\x01",
+            b"\x84\x00\x00\x00\x00\x00\x00\x00\x00\x01\x00\x00\x00\x00\x00\x00\x00\x00\x00\x00\x00\x01\x02",
+            b"DEMILOG1",
+            b"demi: link 0 refused with code 2",
+        ),
+        (
+            "too long a value of a get",
+            b"\x02\x01\x00\x01\x00\x01",
+            b"\x84\x00\x00\x00\x00\x00\x00\x00\x00\x01\x00\x00\x00\x00\x00\x00\x00\x00\x00\x00\x00\x01\x03",
+            b"DEMILOG1",
+            b"demi: link 0 refused with code 3",
+        ),
+        (
+            "a get with a value",
+            b"\x02\x01\x00\x00\x00\x01a1",
+            b"\x84\x00\x00\x00\x00\x00\x00\x00\x00\x01\x00\x00\x00\x00\x00\x00\x00\x00\x00\x00\x00\x01\x04",
+            b"DEMILOG1",
+            b"demi: link 0 refused with code 4",
+        ),
+        (
+            "an end frame with a key",
+            b"\x03\x01\x00\x00\x00\x00",
+            b"\x84\x00\x00\x00\x00\x00\x00\x00\x00\x01\x00\x00\x00\x00\x00\x00\x00\x00\x00\x00\x00\x01\x04",
+            b"DEMILOG1",
+            b"demi: link 0 refused with code 4",
+        ),
+        (
+            "a head that is cut off",
+            b"\x01\x01\x00\x00\x00\x01a1\x01\x01\x00",
+            b"\x81\x00\x00\x00\x00\x00\x00\x00\x00\x01\x00\x00\x00\x00\x00\x00\x00\x01\x00\x00\x00\x011\x84\x00\x00\x00\x00\x00\x00\x00\x00\x02\x00\x00\x00\x00\x00\x00\x00\x00\x00\x00\x00\x01\x05",
+            b"DEMILOG1\x00\x00\x00\x09\x00\x00\x00\x00\x00\x00\x01a1",
+            b"demi: link 0 refused with code 5",
+        ),
+        (
+            "content that is cut off",
+            b"\x01\x02\x00\x00\x00\x03ab1",
+            b"\x84\x00\x00\x00\x00\x00\x00\x00\x00\x01\x00\x00\x00\x00\x00\x00\x00\x00\x00\x00\x00\x01\x05",
+            b"DEMILOG1",
+            b"demi: link 0 refused with code 5",
+        ),
+    ];
+    for (name, input, output, log, warned) in rows {
+        for piece in PIECES {
+            let left = run_in_pieces(rt.alloc(), input, piece)?;
+            assert_eq!(rt; left.status, 6, "{name}");
+            assert_eq!(rt; left.output.as_slice(), output, "{name}");
+            assert_eq!(rt; left.log.as_slice(), log, "{name}");
+            assert_eq!(rt; left.warned.as_slice(), warned, "{name}");
+        }
+    }
+    Ok(())
+}

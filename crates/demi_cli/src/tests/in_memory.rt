@@ -1,0 +1,93 @@
+// Runs of `pipe` over a world in memory.
+use crate::running::run;
+use demi_core::{MemDisk, MemSink, MemSource, MemWorld};
+use std::alloc::Global;
+use std::test::Fail;
+
+// What a run is given: `pipe L` on an empty log.
+#[derive(Clone, Copy)]
+pub struct Setup<'a> {
+    pub input: &'a [u8],
+    pub piece: usize,
+    pub old_log: &'a [u8],
+    pub failing_reads: &'a [u64],
+    pub failing_writes: &'a [u64],
+    pub failing_appends: &'a [u64],
+}
+
+// What it left.
+#[derive(Drop)]
+pub struct Left {
+    pub status: u8,
+    pub warned: Vec<u8>,
+    pub output: Vec<u8>,
+    pub log: Vec<u8>,
+    // The bytes of the input that were not taken.
+    pub rest: usize,
+}
+
+pub fn on_an_empty_log(input: &[u8]) -> Setup<'_> {
+    Setup {
+        input,
+        piece: 100_000,
+        old_log: b"",
+        failing_reads: &[],
+        failing_writes: &[],
+        failing_appends: &[],
+    }
+}
+
+fn words_of(alloc: Global, words: &[&str]) -> Result<Vec<String>, Fail> {
+    let mut all = Vec::new(alloc);
+    for word in words {
+        all.push(word.to_string(alloc)?)?;
+    }
+    Ok(all)
+}
+
+fn world_of(alloc: Global, setup: &Setup) -> Result<MemWorld, Fail> {
+    if setup.input.len() > 1 << 20 || setup.old_log.len() > 1 << 17 {
+        return Err(Fail::from("a test's input is short"));
+    }
+    let source = MemSource::make(
+        setup.input.to_vec(alloc)?,
+        setup.piece.max(1),
+        setup.failing_reads.to_vec(alloc)?,
+    );
+    let writes = setup.failing_writes.to_vec(alloc)?;
+    let sink = MemSink::make(alloc, 1 << 17, 1 << 17, writes)?;
+    let mut links = Vec::new(alloc);
+    links.push((source, sink))?;
+    let appends = setup.failing_appends.to_vec(alloc)?;
+    let disk = MemDisk::make(alloc, setup.old_log, 1 << 17, appends)?;
+    let mut logs = Vec::new(alloc);
+    logs.push(("L".to_string(alloc)?, disk))?;
+    Ok(MemWorld::make(alloc, links, logs, 100, Vec::new(alloc))?)
+}
+
+pub fn run_of(alloc: Global, words: &[&str], setup: &Setup) -> Result<Left, Fail> {
+    let mut world = world_of(alloc, setup)?;
+    let words = words_of(alloc, words)?;
+    let status = run(alloc, &words, &mut world);
+    let (rest, output) = match world.link(0) {
+        Some(link) => (link.0.bytes().len(), link.1.bytes()),
+        None => (setup.input.len(), b"".as_slice()),
+    };
+    let log = match world.disk("L") {
+        Some(disk) => disk.bytes(),
+        None => b"no log",
+    };
+    Ok(Left {
+        status,
+        warned: world.warned().as_bytes().to_vec(alloc)?,
+        output: output.to_vec(alloc)?,
+        log: log.to_vec(alloc)?,
+        rest,
+    })
+}
+
+pub const PUTS_AND_GETS: &[u8] =
+    b"\x01\x01\x00\x00\x00\x01a1\x02\x01\x00\x00\x00\x00a\x01\x01\x00\x00\x00\x01a2\x02\x01\x00\x00\x00\x00a\x03\x00\x00\x00\x00\x00";
+
+pub const THEIR_LOG: &[u8] =
+    b"DEMILOG1\x00\x00\x00\x09\x00\x00\x00\x00\x00\x00\x01a1\x00\x00\x00\x09\x00\x00\x00\x00\x00\x02\x01a2";
