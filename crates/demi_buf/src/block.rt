@@ -4,7 +4,7 @@ ghost use Rattle.demi_buf.specs.Bufs.{carved, IsSuperblock, size_of};
 
 use crate::buf::{Buf, Place};
 use crate::class::Class;
-use crate::no_memory::NoMemory;
+use demi_core::NoMemory;
 use std::alloc::Global;
 
 /// A superblock: its buffers are carved at once and join at once.

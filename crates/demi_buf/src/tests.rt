@@ -1,5 +1,6 @@
 use crate::block::free;
-use crate::{Block, Class, NoMemory};
+use crate::{Block, Class};
+use demi_core::NoMemory;
 use std::test::Fail;
 
 #[test]

@@ -5,7 +5,8 @@ ghost use Rattle.demi_heap.specs.Laid.{HasClasses, IsLaid, IsNewBlock, counts_sh
 
 use crate::counts::Counts;
 use crate::key::Carve;
-use demi_buf::{Block, Buf, Class, NoMemory};
+use demi_buf::{Block, Buf, Class};
+use demi_core::NoMemory;
 use std::alloc::Global;
 
 /// The most buffers of one superblock.

@@ -13,7 +13,8 @@ use crate::pass::HeapPass;
 use crate::steps::deal_one;
 use crate::table::{HeapSeat, Slots};
 use atomic_table::{Refused, Table};
-use demi_buf::{Buf, NoMemory};
+use demi_buf::Buf;
+use demi_core::NoMemory;
 use std::alloc::Global;
 
 /// Gives the superblocks back: there was no memory.

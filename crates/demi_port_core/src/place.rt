@@ -31,7 +31,9 @@ pub struct QToken {
 }
 
 impl Default for QToken {
-    fn default() -> Self {
+    fn default() -> Self
+        ensures { (result.port ≡ 0) × (result.token.0 ≡ 0) }
+    {
         QToken {
             port: 0,
             token: Token(0),

@@ -152,6 +152,11 @@ a_torn_log : records (header ++ entry_of 0 0x31 ++ n4 9 ++ 0 ∷ []) ≡ Err 21
 unfolding entries entries_within entry_front record_of
 a_torn_log = refl
 
+-- an entry of one byte of nine, whose payload says nothing yet: it is torn, and no payload is cut short
+a_torn_entry : entries (header ++ entry_of 0 0x31 ++ n4 9 ++ 0 ∷ []) ≡ Err 21
+unfolding entries entries_within entry_front
+a_torn_entry = refl
+
 no_log : records (0x44 ∷ 0x45 ∷ []) ≡ Err 0
 unfolding entries entries_within entry_front record_of
 no_log = refl

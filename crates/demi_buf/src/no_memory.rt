@@ -1,3 +1,0 @@
-/// Memory was refused. No clause ties it to a cause.
-#[derive(Clone, Copy, PartialEq, Eq, Debug)]
-pub struct NoMemory;
