@@ -2,7 +2,7 @@ use Rattle.std.proofs.Common.{rules, ◌≡◌, ℕ, ◌+◌, ◌<◌, bit_or, a
 use Rattle.std.specs.Int.{bit_at}
 use Rattle.std.proofs.lemmas.Nat.Bits.{bit_at_or}
 use Rattle.demi_port_core.specs.Bits.{has_bit}
-use Rattle.demi_port.proofs.tests.fetch_first.Goals as goal
+use Rattle.demi_port.proofs.tests.threads.fetch_first.Goals as goal
 
 or_right : (a b q : ℕ) → bit_at b q ≡ 1 → bit_at (bit_or a b) q ≡ 1
 or_right a b q e = let h = bit_at_or a b q in let small : bit_at a q < 2 = omega arith in h ∙ (omega arith)
