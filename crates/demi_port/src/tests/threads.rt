@@ -69,7 +69,7 @@ fn two_threads_submit_and_a_third_fetches(rt: HostRuntime) -> Result<(), Fail> {
 }
 
 // How many operations each caller asks for.
-const ASKED: u32 = 1000;
+const ASKED: u32 = 20_000;
 
 // Submits as soon as there is a token.
 fn submit_soon<R: Wait>(rt: &R, port: &Port<Doubles>, pass: &mut PortPass<Doubles>, n: u32) -> Token
