@@ -5,13 +5,14 @@ ghost use Rattle.demi_port_core.specs.History.{Among, times};
 ghost use Rattle.demi_port_core.specs.Phases.{last_round};
 ghost use Rattle.demi_port_core.specs.Told.{clear};
 ghost use Rattle.demi_port_core.specs.Trails.{Behind};
-ghost use Rattle.demi_port_core.specs.Tries.{IfReady, IfNotYet, IfSpent, IfUnknown};
+ghost use Rattle.demi_port.specs.Tries.{IfReady, IfNotYet, IfSpent, IfUnknown};
 ghost use Rattle.demi_port.specs.Seen.{OnlyLooked, Missed, Found, known_by};
 
 use crate::note::Note;
 use crate::pass::PortPass;
 use crate::port::Port;
-use demi_port_core::{Bits, Law, Mask, Place, Redeem, Token};
+use crate::redeem::Redeem;
+use demi_port_core::{Bits, Law, Mask, Place, Token};
 
 /// No token could be had. The operation comes back.
 #[derive(Drop)]
@@ -37,7 +38,7 @@ impl<L: Law> Port<L> {
 
     /// Redeems the token if its operation is finished, and gives the operation's place and outcome.
     /// The pass then knows the ground and the trail that the outcome stands on, by which the law admits it, and none of them is ever taken back.
-    pub fn try_wait(&self, pass: &mut PortPass<L>, token: Token) -> Redeem<L::Out>
+    pub fn try_wait(&self, pass: &mut PortPass<L>, token: Token) -> Redeem<L>
         requires port { pass.old.port ≡ self.now }
         ensures same { (pass.new.port ≡ pass.old.port) × (pass.new.number ≡ pass.old.number) }
         ensures ready { IfReady result (λ p out. L.admits self.now.key.base pass.new.heard pass.new.trail p out × (p < pass.new.floor)) }
