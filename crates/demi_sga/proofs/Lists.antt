@@ -7,7 +7,7 @@ use Rattle.demi_buf.specs.Bufs.{size_of}
 use Rattle.demi_buf.specs.declared.class.Class.{Class}
 use Rattle.demi_buf.specs.declared.class.Class.TheVariants.{Small, Page, Large}
 use Rattle.demi_heap.specs.Seen.{HeapId, HalfValue}
-use Rattle.demi_sga.specs.Arrays.{AreOf, SameSlots, byte_count, part_of, first_held, held_at}
+use Rattle.demi_sga.specs.Arrays.{AreOf, SameSlots, byte_count, part_of, first_held, held_at, written_at}
 
 pub size_limit : (c : Class) → size_of c ≤ 65536
 size_limit Small = omega arith
@@ -97,6 +97,18 @@ parts zero xs = refl
 parts (suc k) [] = refl
 parts (suc k) (x ∷ xs) = λ i. x ∷ parts k xs i
 
+append_again : (xs ys zs : List HalfValue) → (xs ++ ys) ++ zs ≡ xs ++ (ys ++ zs)
+append_again [] ys zs = refl
+append_again (x ∷ xs) ys zs = λ i. x ∷ append_again xs ys zs i
+
+-- one segment stands apart, and another one behind it, or before it, is to stand apart
+module _ (front back : List HalfValue) (here next : HalfValue) (rest : List HalfValue) (k : ℕ) where
+  pub turned_right : drop k back ≡ next ∷ rest → (front ++ here ∷ take k back) ++ next ∷ rest ≡ front ++ here ∷ back
+  turned_right e = append_again front (here ∷ take k back) (next ∷ rest) ∙ (λ i. front ++ here ∷ (take k back ++ sym e i)) ∙ (λ i. front ++ here ∷ parts k back i)
+
+  pub turned_left : drop k front ≡ next ∷ rest → take k front ++ next ∷ (rest ++ here ∷ back) ≡ front ++ here ∷ back
+  turned_left e = sym (append_again (take k front) (next ∷ rest) (here ∷ back)) ∙ (λ i. (take k front ++ sym e i) ++ here ∷ back) ∙ (λ i. parts k front i ++ here ∷ back)
+
 take_past : (back xs : List HalfValue) (k : ℕ) → take (length back + k) (back ++ xs) ≡ back ++ take k xs
 take_past [] xs k = ap (λ (n : ℕ). take n xs) (let e : 0 + k ≡ k = omega arith in e)
 take_past (b ∷ bs) xs k = ap (λ (n : ℕ). take n (b ∷ bs ++ xs)) (let e : suc (length bs) + k ≡ suc (length bs + k) = omega arith in e) ∙ (λ i. b ∷ take_past bs xs k i)
@@ -131,3 +143,18 @@ held_of h k xs o = let p = of_parts h k xs o in append_of h (take k xs) (first_h
     first : (ys : List HalfValue) → AreOf h ys → AreOf h (first_held ys)
     first [] q = q
     first (y ∷ ys) q = q
+
+pub written_of : (h : HeapId) (i : ℕ) (xs : List HalfValue) (bytes : List ℕ) → AreOf h xs → AreOf h (written_at i xs bytes)
+written_of h i [] bytes o = tt
+written_of h zero (x ∷ xs) bytes o = o
+written_of h (suc i) (x ∷ xs) bytes o = (o.0, written_of h i xs bytes o.1)
+
+pub at_place : (xs : List HalfValue) (i : ℕ) → i < length xs → (a : HalfValue) × (get_elem? xs i ≡ some a)
+at_place [] i low = absurd (omega arith)
+at_place (x ∷ xs) zero low = (x, refl)
+at_place (x ∷ xs) (suc i) low = at_place xs i (omega arith)
+
+pub set_of : (h : HeapId) (i : ℕ) (xs : List HalfValue) (a b : HalfValue) → get_elem? xs i ≡ some a → b.heap ≡ a.heap → AreOf h xs → AreOf h (set xs i b)
+set_of h i [] a b at same o = tt
+set_of h zero (x ∷ xs) a b at same o = (same ∙ (ap (λ (z : HalfValue). z.heap) (sym (some-injective x a at)) ∙ o.0), o.1)
+set_of h (suc i) (x ∷ xs) a b at same o = (o.0, set_of h i xs a b at same o.1)

@@ -1,8 +1,8 @@
 -- What a contract sees of an array.
-use Rattle.std.specs.Prelude.{cond, ltb, ◌||◌, ◌==◌, replicate, ◌-◌, nat_lt, ◌≡◌, ℕ, ◌+◌, Bool, List, [], ◌∷◌, ◌++◌, length, take, drop, if◌then◌else◌, nat_le}
+use Rattle.std.specs.Prelude.{cond, ltb, ◌||◌, ◌==◌, replicate, ◌-◌, nat_lt, ◌≡◌, ℕ, zero, suc, ◌+◌, Bool, List, [], ◌∷◌, ◌++◌, length, take, drop, if◌then◌else◌, nat_le}
 use Rattle.demi_buf.specs.declared.class.Class.{Class}
 use Rattle.demi_buf.specs.declared.class.Class.TheVariants.{Small, Page, Large}
-use Rattle.demi_heap.specs.Seen.{HeapId, HalfValue, PassValue, half_held, new_half, half_with}
+use Rattle.demi_heap.specs.Seen.{HeapId, HalfValue, PassValue, half_held, new_half, half_with, half_written}
 
 -- an array that was lent: its segments in order, and how many of them are taken back already
 pub record LentValue : Type 0 where
@@ -53,6 +53,12 @@ part_of (a ∷ xs) from most = cond (ltb from (length a.bytes)) (take most (drop
 -- the half with its length set
 abbrev pub sized : HalfValue → ℕ → HalfValue
 sized a n = record a { bytes = take n a.bytes ++ replicate (n - length a.bytes) 0 }
+
+-- the array with the bytes of its segment i written over
+abbrev pub written_at : ℕ → List HalfValue → List ℕ → List HalfValue
+written_at i [] bytes = []
+written_at zero (a ∷ xs) bytes = half_written a bytes ∷ xs
+written_at (suc i) (a ∷ xs) bytes = a ∷ written_at i xs bytes
 
 -- the k-th segment was found held by the device
 abbrev pub held_at : ℕ → List HalfValue → List HalfValue

@@ -1,10 +1,12 @@
-ghost use Rattle.std.specs.Prelude.{◌≡◌, ◌+◌, ◌<◌, ◌≤◌, [], ◌∷◌, ◌++◌, length, take, drop, slice_set, IfOk, IfErr};
+ghost use Rattle.std.specs.Prelude.{◌≡◌, ◌+◌, ◌*◌, ◌<◌, ◌≤◌, [], ◌∷◌, ◌++◌, length, take, drop, slice_set, IfOk, IfErr};
+ghost use Rattle.std.specs.Borrow.{Lends, Array, sem, u8};
 ghost use mathlib.Core.Option.{some};
 ghost use lib.ListN.{get_elem?};
 ghost use Rattle.demi_buf.specs.Bufs.{size_of};
 ghost use Rattle.demi_heap.specs.Seen.{HalfValue};
-ghost use Rattle.demi_sga.specs.Arrays.{byte_count, sized};
+ghost use Rattle.demi_sga.specs.Arrays.{byte_count, sized, written_at};
 ghost use Rattle.demi_sga.specs.Rows.{items};
+ghost use Rattle.demi_sga.specs.contracts.app.AppSga.{the_row};
 
 use crate::row::Row;
 use demi_heap::AppBuf;
@@ -12,20 +14,23 @@ use std::marker::Model;
 use std::mem;
 
 /// An application's array of 1 to 8 segments. It must be spent: by a call of this crate, or by `lose`.
+/// One segment stands apart between those before it and those after it, so that it can be lent for writing.
 pub struct AppSga {
-    pub(crate) row: Row<AppBuf>,
+    front: Row<AppBuf>,
+    here: AppBuf,
+    back: Row<AppBuf>,
 }
 
 impl Model for AppSga {
-    ghost use Rattle.std.specs.Prelude.{◌≤◌, List, length};
+    ghost use Rattle.std.specs.Prelude.{◌≤◌, ◌+◌, ◌∷◌, ◌++◌, List, length};
     ghost use Rattle.demi_heap.specs.Seen.{HalfValue};
     ghost use Rattle.demi_sga.specs.Rows.{items};
 
     ghost Value = { List HalfValue };
 
-    ghost view = { λ s. items s.row };
+    ghost view = { λ s. items s.front ++ s.here ∷ items s.back };
 
-    ghost invariant = { λ s. (1 ≤ length (items s.row)) × (length (items s.row) ≤ 8) };
+    ghost invariant = { λ s. length (items s.front) + length (items s.back) ≤ 7 };
 }
 
 impl AppSga {
@@ -33,7 +38,31 @@ impl AppSga {
     pub fn of(buf: AppBuf) -> AppSga
         ensures { result ≡ buf ∷ [] }
     {
-        AppSga { row: Row::One(buf) }
+        AppSga {
+            front: Row::Empty,
+            here: buf,
+            back: Row::Empty,
+        }
+    }
+
+    pub(crate) fn of_row(row: Row<AppBuf>) -> AppSga
+        requires { (1 ≤ length (items row)) × (length (items row) ≤ 8) }
+        ensures { result ≡ items row }
+    {
+        let (here, back) = row.pop();
+        AppSga {
+            front: Row::Empty,
+            here,
+            back,
+        }
+    }
+
+    pub(crate) fn into_row(self) -> Row<AppBuf>
+        ensures row { items result ≡ self }
+        ensures length { (1 ≤ length self) × (length self ≤ 8) }
+    {
+        let AppSga { front, here, back } = self;
+        front.append(back.push(here))
     }
 
     /// The segments of both in order. Refused exactly where they are more than 8.
@@ -41,14 +70,12 @@ impl AppSga {
         ensures ok { IfOk result (λ s. (s ≡ first ++ second) × (length first + length second ≤ 8)) }
         ensures err { IfErr result (λ p. (p.0 ≡ first) × (p.1 ≡ second) × (8 < length first + length second)) }
     {
-        if first.row.len() + second.row.len() > 8 {
+        if first.segments() + second.segments() > 8 {
             return Err((first, second));
         }
-        let AppSga { row: front } = first;
-        let AppSga { row: back } = second;
-        Ok(AppSga {
-            row: front.append(back),
-        })
+        let front = first.into_row();
+        let back = second.into_row();
+        Ok(AppSga::of_row(front.append(back)))
     }
 
     /// The first `k` segments, and the rest.
@@ -56,15 +83,15 @@ impl AppSga {
         requires { (1 ≤ k) × (k < length self) }
         ensures { (result.0 ≡ take k self) × (result.1 ≡ drop k self) }
     {
-        let AppSga { row } = self;
-        let (front, back) = row.split(k as usize);
-        (AppSga { row: front }, AppSga { row: back })
+        let (front, back) = self.into_row().split(k as usize);
+        (AppSga::of_row(front), AppSga::of_row(back))
     }
 
     pub fn segments(&self) -> u32
-        ensures { result ≡ length self.now }
+        ensures count { result ≡ length self.now }
+        ensures limit { (1 ≤ result) × (result ≤ 8) }
     {
-        self.row.len() as u32
+        (self.front.len() + 1 + self.back.len()) as u32
     }
 
     /// The bytes of one segment.
@@ -72,7 +99,25 @@ impl AppSga {
         requires { i < length self.now }
         ensures { (a : HalfValue) × (get_elem? self.now i ≡ some a) × (result.now ≡ a.bytes) }
     {
-        self.row.at(i as usize).bytes()
+        let before = self.front.len();
+        let i = i as usize;
+        if i < before {
+            self.front.at(i).bytes()
+        } else if i == before {
+            self.here.bytes()
+        } else {
+            self.back.at(i - before - 1).bytes()
+        }
+    }
+
+    /// The bytes of one segment, to write.
+    pub fn segment_mut(&mut self, i: u32) -> &mut [u8]
+        requires { i < length self.old }
+        ensures* writes_back { sem 𝓛 (Lends the_row (Array u8 0) self.entry result (written_at i self.old)) }
+        ensures value { (a : HalfValue) × (get_elem? self.old i ≡ some a) × (result.now ≡ a.bytes) }
+    {
+        turn(&mut self.front, &mut self.here, &mut self.back, i as usize);
+        self.here.bytes_mut()
     }
 
     /// How many bytes all segments have.
@@ -80,7 +125,7 @@ impl AppSga {
         ensures bytes { result ≡ byte_count self.now }
         ensures limit { result ≤ 524288 }
     {
-        len_of(&self.row)
+        len_of(&self.front) + segment_len(&self.here) + len_of(&self.back)
     }
 
     /// Sets the length of one segment. Bytes stay up to `n`, and bytes that are added are 0.
@@ -89,16 +134,39 @@ impl AppSga {
         requires size { (a : HalfValue) → get_elem? self.old i ≡ some a → n ≤ size_of a.class }
         ensures { (a : HalfValue) → get_elem? self.old i ≡ some a → self.new ≡ slice_set self.old i (sized a n) }
     {
-        let row = mem::replace(&mut self.row, Row::Empty);
-        let row = set_row_len(row, i as usize, n);
-        mem::replace(&mut self.row, row).end();
+        turn(&mut self.front, &mut self.here, &mut self.back, i as usize);
+        self.here.set_len(n);
     }
 
     /// Gives it up. Its slots stay owned for good.
     pub fn lose(self) {
-        let AppSga { row } = self;
-        lose_all(row);
+        lose_all(self.into_row());
     }
+}
+
+/// Brings the segment `i` between those before it and those after it.
+fn turn(front: &mut Row<AppBuf>, here: &mut AppBuf, back: &mut Row<AppBuf>, i: usize)
+    requires { (i ≤ length (items front.old) + length (items back.old)) × (length (items front.old) + length (items back.old) ≤ 7) }
+    ensures same { items front.new ++ here.new ∷ items back.new ≡ items front.old ++ here.old ∷ items back.old }
+    ensures place { length (items front.new) ≡ i }
+{
+    let before = mem::replace(front, Row::Empty);
+    let after = mem::replace(back, Row::Empty);
+    let (before, after) = if before.len() < i {
+        let (between, rest) = after.split(i - before.len() - 1);
+        let (next, after) = rest.pop();
+        let left = mem::replace(here, next);
+        (before.append(between.push(left)), after)
+    } else if i < before.len() {
+        let (before, rest) = before.split(i);
+        let (next, between) = rest.pop();
+        let left = mem::replace(here, next);
+        (before, between.append(after.push(left)))
+    } else {
+        (before, after)
+    };
+    mem::replace(front, before).end();
+    mem::replace(back, after).end();
 }
 
 fn lose_all(row: Row<AppBuf>) {
@@ -122,23 +190,11 @@ fn segment_len(buf: &AppBuf) -> u32
 fn len_of(row: &Row<AppBuf>) -> u32
     requires { length (items row.now) ≤ 8 }
     ensures bytes { result ≡ byte_count (items row.now) }
-    ensures limit { result ≤ 524288 }
+    ensures limit { result ≤ 65536 * length (items row.now) }
 {
     let mut total = 0u32;
     for i in 0..row.len() {
         total += segment_len(row.at(i));
     }
     total
-}
-
-fn set_row_len(row: Row<AppBuf>, i: usize, n: u32) -> Row<AppBuf>
-    requires index { (i < length (items row)) × (length (items row) ≤ 8) }
-    requires size { (a : HalfValue) → get_elem? (items row) i ≡ some a → n ≤ size_of a.class }
-    ensures row { (a : HalfValue) → get_elem? (items row) i ≡ some a → items result ≡ slice_set (items row) i (sized a n) }
-    ensures len { length (items result) ≡ length (items row) }
-{
-    let (front, back) = row.split(i);
-    let (mut buf, rest) = back.pop();
-    buf.set_len(n);
-    front.append(rest.push(buf))
 }

@@ -36,8 +36,7 @@ pub fn lend(heap: &Heap, pass: &mut HeapPass, sga: AppSga) -> (LentSga, DevSga)
     ensures device { result.1 ≡ sga }
 {
     let len = sga.len();
-    let AppSga { row } = sga;
-    let (rest, devs) = lend_row(heap, pass, row);
+    let (rest, devs) = lend_row(heap, pass, sga.into_row());
     (
         LentSga {
             back: Row::Empty,
@@ -66,8 +65,7 @@ pub fn free_app(heap: &Heap, pass: &mut HeapPass, sga: AppSga)
     requires { (pass.old.heap ≡ heap.now) × AreOf heap.now sga }
     ensures { pass.new ≡ ended_by pass.old (length sga) }
 {
-    let AppSga { row } = sga;
-    free_row(heap, pass, row);
+    free_row(heap, pass, sga.into_row());
 }
 
 fn release_row(heap: &Heap, pass: &mut HeapPass, row: Row<DevBuf>)
@@ -150,7 +148,7 @@ pub fn reclaim(heap: &Heap, pass: &mut HeapPass, half: LentSga) -> Result<AppSga
     let back = back.append(more);
     if left.len() == 0 {
         left.end();
-        Ok(AppSga { row: back })
+        Ok(AppSga::of_row(back))
     } else {
         Err(StillHeld(LentSga {
             back,
@@ -190,9 +188,7 @@ pub fn rejoin(heap: &Heap, pass: &mut HeapPass, half: LentSga, dev: DevSga) -> A
     let (ended, devs) = row.split(back.len());
     release_row(heap, pass, ended);
     let joined = rejoin_row(heap, pass, rest, devs);
-    AppSga {
-        row: back.append(joined),
-    }
+    AppSga::of_row(back.append(joined))
 }
 
 /// Why there is no new array.

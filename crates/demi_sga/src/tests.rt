@@ -10,11 +10,15 @@ use std::alloc::Global;
 use std::process::Abort;
 use std::test::Fail;
 
-fn open<R: Abort>(rt: &R, alloc: Global) -> (Heap, HeapPass)
+mod contents;
+
+/// A heap with so many small slots, one page and one large slot.
+fn open<R: Abort>(rt: &R, alloc: Global, small: u32) -> (Heap, HeapPass)
+    requires { small ≤ 9 }
     ensures { (result.1.heap ≡ result.0) × (result.0.shape.passes ≡ 1) }
 {
     let counts = Counts {
-        small: 9,
+        small,
         page: 1,
         large: 1,
     };
@@ -71,7 +75,7 @@ fn joined<R: Abort>(rt: &R, first: AppSga, second: AppSga) -> AppSga
 
 #[test]
 fn sizes_choose_the_class_or_are_refused(rt: HostRuntime) -> Result<(), Fail> {
-    let (heap, mut pass) = open(&rt, rt.alloc());
+    let (heap, mut pass) = open(&rt, rt.alloc(), 9);
     let none = keep(&heap, &mut pass, 0);
     let above = keep(&heap, &mut pass, 65537);
     let small = keep(&heap, &mut pass, 256);
@@ -92,14 +96,22 @@ fn sizes_choose_the_class_or_are_refused(rt: HostRuntime) -> Result<(), Fail> {
     Ok(())
 }
 
+/// Both as one array.
+fn pair<R: Abort>(rt: &R, heap: &Heap, first: AppSga, second: AppSga) -> AppSga
+    requires { AreOf heap.now first × AreOf heap.now second }
+    ensures { AreOf heap.now result }
+{
+    let _ = heap;
+    joined(rt, first, second)
+}
+
 /// The three as one array.
 fn three<R: Abort>(rt: &R, heap: &Heap, first: AppSga, second: AppSga, third: AppSga) -> AppSga
     requires { AreOf heap.now first × AreOf heap.now second × AreOf heap.now third }
     ensures { AreOf heap.now result }
 {
-    let _ = heap;
-    let front = joined(rt, first, second);
-    joined(rt, front, third)
+    let front = pair(rt, heap, first, second);
+    pair(rt, heap, front, third)
 }
 
 /// The first segment and the others.
@@ -161,7 +173,7 @@ fn whole<R: Abort>(rt: &R, heap: &Heap, pass: &mut HeapPass, half: LentSga) -> A
 
 #[test]
 fn a_reclaim_goes_on_where_it_stopped(rt: HostRuntime) -> Result<(), Fail> {
-    let (heap, mut pass) = open(&rt, rt.alloc());
+    let (heap, mut pass) = open(&rt, rt.alloc(), 9);
     let first = byte(&rt, &heap, &mut pass, 0x61);
     let second = byte(&rt, &heap, &mut pass, 0x62);
     let third = byte(&rt, &heap, &mut pass, 0x63);

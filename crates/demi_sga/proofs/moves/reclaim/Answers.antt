@@ -5,8 +5,8 @@ use Rattle.demi_sga.specs.Rows.{items}
 use Rattle.demi_sga.proofs.Lists.{back_length, back_bytes, back_held, back_all, held_of}
 use Rattle.demi_sga.proofs.moves.reclaim.Goals as goal
 
-pub invariant_of-result-else-len-eq0 : goal.invariant_of-result-else-len-eq0
-invariant_of-result-else-len-eq0 c = let back = items c.half.inside.back in let rest = items c.half.inside.rest in let more = items c.reclaim_row-more.result.0 in let left = items c.reclaim_row-more.result.1 in
+pub invariant_of-result : goal.invariant_of-result
+invariant_of-result c = let back = items c.half.inside.back in let rest = items c.half.inside.rest in let more = items c.reclaim_row-more.result.0 in let left = items c.reclaim_row-more.result.1 in
     let e = c.reclaim_row-more.ensures in let n = back_length back more left rest e.back e.rest in let b = back_bytes back more left rest e.back e.rest in let both = c.append-back.ensures in
     let long = ap length both in let apart = length-append back more in let inv = c.half.invariant in let i₀ = inv.0 in let i₁ = inv.1 in let i₂ = inv.2 in (
       omega arith,
@@ -16,7 +16,7 @@ invariant_of-result-else-len-eq0 c = let back = items c.half.inside.back in let 
 
 pub returns-then-len-eq0-clause-ok : goal.returns-then-len-eq0-clause-ok
 returns-then-len-eq0-clause-ok c = let back = items c.half.inside.back in let rest = items c.half.inside.rest in let more = items c.reclaim_row-more.result.0 in let left = items c.reclaim_row-more.result.1 in
-    let e = c.reclaim_row-more.ensures in c.append-back.ensures ∙ (back_all back more left rest e.back e.rest (empty left (sym c.len.ensures ∙ c.if-len-eq0.true)) ∙ ap (λ (v : LentValue). v.segments) c.half.view_is)
+    let e = c.reclaim_row-more.ensures in c.of_row.ensures ∙ (c.append-back.ensures ∙ (back_all back more left rest e.back e.rest (empty left (sym c.len.ensures ∙ c.if-len-eq0.true)) ∙ ap (λ (v : LentValue). v.segments) c.half.view_is))
   where
     empty : (xs : List HalfValue) → length xs ≡ 0 → xs ≡ []
     empty [] h = refl

@@ -1,8 +1,0 @@
-use Rattle.std.proofs.Common.{List, sym, ◌++◌, ap, ◌∙◌, subst}
-use Rattle.demi_sga.specs.Arrays.{AreOf}
-use Rattle.demi_sga.proofs.Lists.{append_of}
-use Rattle.demi_sga.proofs.tests.three.Goals as goal
-
-pub returns : goal.returns
-returns g c = let h = c.args.heap.now in
-    subst (AreOf h) (sym c.joined.ensures.0) (append_of h _ _ (subst (AreOf h) (sym c.joined-front.ensures.0) (append_of h _ _ c.requires.0 c.requires.1)) c.requires.2)
