@@ -13,6 +13,8 @@ use crate::pass::PortPass;
 use crate::port::Port;
 use crate::redeem::Redeem;
 use demi_port_core::{Bits, Law, Mask, Place, Token};
+use std::sync::Wait;
+use std::thread::yield_now;
 
 /// No token could be had. The operation comes back.
 #[derive(Drop)]
@@ -80,5 +82,13 @@ impl<L: Law> Port<L> {
         ensures { pass.new ≡ record pass.old { seen = max pass.old.seen note.seen; learnt = pass.old.learnt + 1 } }
     {
         self.tables.learn(&mut pass.pair, note.into_seat());
+    }
+
+    /// Lets other threads run, before the pass tries again. Nothing changes by it, and it may wait.
+    pub fn park<R: Wait>(&self, _rt: &R, _pass: &mut PortPass<L>)
+        requires port { _pass.old.port ≡ self.now }
+        ensures { _pass.new ≡ _pass.old }
+    {
+        yield_now();
     }
 }

@@ -10,6 +10,8 @@ ghost use Rattle.demi_port.specs.Seen.{above_all, NoneOwed};
 use crate::device_seat::DeviceSeat;
 use crate::port::Port;
 use demi_port_core::{Bits, Law, Place, Token};
+use std::sync::Wait;
+use std::thread::yield_now;
 
 impl<L: Law> Port<L> {
     /// The indexes whose doorbell bit was set at this call's step. The bits are cleared, and the device owes a fetch of each.
@@ -44,5 +46,13 @@ impl<L: Law> Port<L> {
         ensures woken { NoneOwed seat.new.owes }
     {
         self.tables.finish(&mut seat.pair, token.0, out);
+    }
+
+    /// Lets other threads run, before the device takes again. Nothing changes by it, and it may wait.
+    pub fn rest<R: Wait>(&self, _rt: &R, _seat: &mut DeviceSeat<L>)
+        requires port { _seat.old.port ≡ self.now }
+        ensures { _seat.new ≡ _seat.old }
+    {
+        yield_now();
     }
 }
