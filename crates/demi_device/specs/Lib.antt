@@ -1,0 +1,4 @@
+pub mod Serving
+pub mod Turning
+pub mod Holding
+pub mod Doubling
