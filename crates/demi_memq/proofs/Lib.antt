@@ -1,0 +1,9 @@
+pub mod Examples
+pub mod Lists
+pub mod Moves
+pub mod Agreeing
+pub mod Keeping
+pub mod EachKind
+pub mod Ending
+pub mod Saying
+pub mod Going

@@ -1,0 +1,240 @@
+//! How memory queues serve an operation.
+ghost use Rattle.std.specs.Prelude.{◌≡◌, ◌+◌, ◌<◌, ◌++◌, [], ◌∷◌, length, None, Some};
+ghost use Rattle.demi_sga.specs.Arrays.{AreOf};
+ghost use Rattle.demi_memq.specs.declared.op.MemOp.TheVariants.{Queue as queue, Push as push, Pop as pop, Close as close, Stop as stop};
+ghost use Rattle.demi_memq.specs.Said.{IsProper, array_said, op_said};
+ghost use Rattle.demi_memq.specs.Segments.{held, op_segments};
+ghost use Rattle.demi_memq.specs.Serving.{Accounts, GivenOf, IsKept, IsSound, Serves};
+
+use crate::emptying::{close_all, release_all, release_op, stop_all};
+use crate::heard::{History, Outcomes};
+use crate::queues::{Queues, take_first};
+use crate::{MemLaw, MemOp, MemOut};
+use demi_device::Done;
+use demi_port_core::Place;
+use demi_sga::{DevSga, release};
+
+impl<'h> Queues<'h> {
+    pub(crate) fn queue(
+        &mut self,
+        place: Place,
+        history: &History,
+        outcomes: &Outcomes,
+        done: &mut Done<MemLaw>,
+    )
+        requires kept { IsKept history.now.value outcomes.now.value self.old }
+        requires sound { IsSound self.old }
+        requires next { place.0 ≡ length history.now.value }
+        requires empty { done.old.added ≡ [] }
+        requires holds { length history.now.value < length outcomes.now.value + done.old.room }
+        requires calm { self.old.stop ≡ None }
+        ensures served { Serves history.now.value outcomes.now.value queue self.new done.new.added }
+        ensures sound { IsSound self.new }
+        ensures given { GivenOf self.new.pass.heap done.new.added }
+        ensures numbers { Accounts self.old.pass (held self.old.waiting.items) self.new.pass (held self.new.waiting.items) done.new.added 0 }
+        ensures room { self.new.room ≡ self.old.room }
+        ensures done { done.new.room ≡ done.old.room }
+    {
+        if self.made < 256 {
+            let q = self.made;
+            self.made += 1;
+            done.add(place, MemOut::Opened(q));
+        } else {
+            done.add(place, MemOut::TooMany);
+        }
+    }
+
+    pub(crate) fn push(
+        &mut self,
+        place: Place,
+        q: u32,
+        sga: DevSga,
+        history: &History,
+        outcomes: &Outcomes,
+        done: &mut Done<MemLaw>,
+    )
+        requires kept { IsKept history.now.value outcomes.now.value self.old }
+        requires sound { IsSound self.old }
+        requires proper { AreOf self.old.pass.heap sga }
+        requires next { place.0 ≡ length history.now.value }
+        requires empty { done.old.added ≡ [] }
+        requires holds { length history.now.value < length outcomes.now.value + done.old.room }
+        requires calm { self.old.stop ≡ None }
+        ensures served { Serves history.now.value outcomes.now.value (push q (array_said sga)) self.new done.new.added }
+        ensures sound { IsSound self.new }
+        ensures given { GivenOf self.new.pass.heap done.new.added }
+        ensures numbers { Accounts self.old.pass (held self.old.waiting.items) self.new.pass (held self.new.waiting.items) done.new.added (length sga) }
+        ensures room { self.new.room ≡ self.old.room }
+        ensures done { done.new.room ≡ done.old.room }
+    {
+        if q >= self.made {
+            release(self.heap, &mut self.pass, sga);
+            done.add(place, MemOut::BadQueue);
+        } else if self.shut[q as usize] {
+            release(self.heap, &mut self.pass, sga);
+            done.add(place, MemOut::Closed);
+        } else if let Some(first) = take_first(&mut self.pending, q) {
+            done.add(Place(first), MemOut::Item(sga));
+            done.add(place, MemOut::Pushed);
+        } else if self.waiting.len() < 1024 {
+            self.waiting.push_back_reserved((q, sga));
+            done.add(place, MemOut::Pushed);
+        } else {
+            release(self.heap, &mut self.pass, sga);
+            done.add(place, MemOut::QueueFull);
+        }
+    }
+
+    pub(crate) fn pop(
+        &mut self,
+        place: Place,
+        q: u32,
+        history: &History,
+        outcomes: &Outcomes,
+        done: &mut Done<MemLaw>,
+    )
+        requires kept { IsKept history.now.value outcomes.now.value self.old }
+        requires sound { IsSound self.old }
+        requires next { place.0 ≡ length history.now.value }
+        requires few { length history.now.value < length outcomes.now.value + self.old.room }
+        requires empty { done.old.added ≡ [] }
+        requires holds { length history.now.value < length outcomes.now.value + done.old.room }
+        requires calm { self.old.stop ≡ None }
+        ensures served { Serves history.now.value outcomes.now.value (pop q) self.new done.new.added }
+        ensures sound { IsSound self.new }
+        ensures given { GivenOf self.new.pass.heap done.new.added }
+        ensures numbers { Accounts self.old.pass (held self.old.waiting.items) self.new.pass (held self.new.waiting.items) done.new.added 0 }
+        ensures room { self.new.room ≡ self.old.room }
+        ensures done { done.new.room ≡ done.old.room }
+    {
+        if q >= self.made {
+            done.add(place, MemOut::BadQueue);
+        } else if let Some(sga) = take_first(&mut self.waiting, q) {
+            done.add(place, MemOut::Item(sga));
+        } else if self.shut[q as usize] {
+            done.add(place, MemOut::Closed);
+        } else {
+            self.pending.push_back_reserved((q, place.0));
+        }
+    }
+
+    pub(crate) fn close(
+        &mut self,
+        place: Place,
+        q: u32,
+        history: &History,
+        outcomes: &Outcomes,
+        done: &mut Done<MemLaw>,
+    )
+        requires kept { IsKept history.now.value outcomes.now.value self.old }
+        requires sound { IsSound self.old }
+        requires next { place.0 ≡ length history.now.value }
+        requires empty { done.old.added ≡ [] }
+        requires holds { length history.now.value < length outcomes.now.value + done.old.room }
+        requires calm { self.old.stop ≡ None }
+        ensures served { Serves history.now.value outcomes.now.value (close q) self.new done.new.added }
+        ensures sound { IsSound self.new }
+        ensures given { GivenOf self.new.pass.heap done.new.added }
+        ensures numbers { Accounts self.old.pass (held self.old.waiting.items) self.new.pass (held self.new.waiting.items) done.new.added 0 }
+        ensures room { self.new.room ≡ self.old.room }
+        ensures done { done.new.room ≡ done.old.room }
+    {
+        if q >= self.made {
+            done.add(place, MemOut::BadQueue);
+        } else if self.shut[q as usize] {
+            done.add(place, MemOut::Closed);
+        } else {
+            self.shut[q as usize] = true;
+            close_all(&mut self.pending, q, history, outcomes, done);
+            done.add(place, MemOut::Shut);
+        }
+    }
+
+    pub(crate) fn halt(
+        &mut self,
+        place: Place,
+        history: &History,
+        outcomes: &Outcomes,
+        done: &mut Done<MemLaw>,
+    )
+        requires kept { IsKept history.now.value outcomes.now.value self.old }
+        requires sound { IsSound self.old }
+        requires next { place.0 ≡ length history.now.value }
+        requires empty { done.old.added ≡ [] }
+        requires holds { length history.now.value < length outcomes.now.value + done.old.room }
+        requires calm { self.old.stop ≡ None }
+        ensures served { Serves history.now.value outcomes.now.value stop self.new done.new.added }
+        ensures sound { IsSound self.new }
+        ensures given { GivenOf self.new.pass.heap done.new.added }
+        ensures numbers { Accounts self.old.pass (held self.old.waiting.items) self.new.pass (held self.new.waiting.items) done.new.added 0 }
+        ensures room { self.new.room ≡ self.old.room }
+        ensures done { done.new.room ≡ done.old.room }
+    {
+        self.stop = Some(place);
+        stop_all(&mut self.pending, place, history, outcomes, done);
+        release_all(self.heap, &mut self.pass, &mut self.waiting);
+        done.add(place, MemOut::Halted);
+    }
+
+    pub(crate) fn refuse(
+        &mut self,
+        at: Place,
+        place: Place,
+        op: MemOp,
+        history: &History,
+        outcomes: &Outcomes,
+        done: &mut Done<MemLaw>,
+    )
+        requires kept { IsKept history.now.value outcomes.now.value self.old }
+        requires sound { IsSound self.old }
+        requires proper { IsProper self.old.pass.heap op }
+        requires next { place.0 ≡ length history.now.value }
+        requires empty { done.old.added ≡ [] }
+        requires holds { length history.now.value < length outcomes.now.value + done.old.room }
+        requires ended { self.old.stop ≡ Some at }
+        ensures served { Serves history.now.value outcomes.now.value (op_said op) self.new done.new.added }
+        ensures sound { IsSound self.new }
+        ensures given { GivenOf self.new.pass.heap done.new.added }
+        ensures numbers { Accounts self.old.pass (held self.old.waiting.items) self.new.pass (held self.new.waiting.items) done.new.added (op_segments op) }
+        ensures room { self.new.room ≡ self.old.room }
+        ensures done { done.new.room ≡ done.old.room }
+    {
+        release_op(self.heap, &mut self.pass, op);
+        done.add(place, MemOut::Stopped(at));
+    }
+
+    /// The operation of the next place.
+    pub(crate) fn serve(
+        &mut self,
+        place: Place,
+        op: MemOp,
+        history: &History,
+        outcomes: &Outcomes,
+        done: &mut Done<MemLaw>,
+    )
+        requires kept { IsKept history.now.value outcomes.now.value self.old }
+        requires sound { IsSound self.old }
+        requires proper { IsProper self.old.pass.heap op }
+        requires next { place.0 ≡ length history.now.value }
+        requires few { length history.now.value < length outcomes.now.value + self.old.room }
+        requires empty { done.old.added ≡ [] }
+        requires holds { length history.now.value < length outcomes.now.value + done.old.room }
+        ensures served { Serves history.now.value outcomes.now.value (op_said op) self.new done.new.added }
+        ensures sound { IsSound self.new }
+        ensures given { GivenOf self.new.pass.heap done.new.added }
+        ensures numbers { Accounts self.old.pass (held self.old.waiting.items) self.new.pass (held self.new.waiting.items) done.new.added (op_segments op) }
+        ensures room { self.new.room ≡ self.old.room }
+        ensures done { done.new.room ≡ done.old.room }
+    {
+        if let Some(at) = self.stop {
+            return self.refuse(at, place, op, history, outcomes, done);
+        }
+        match op {
+            MemOp::Queue => self.queue(place, history, outcomes, done),
+            MemOp::Push { q, sga } => self.push(place, q, sga, history, outcomes, done),
+            MemOp::Pop { q } => self.pop(place, q, history, outcomes, done),
+            MemOp::Close { q } => self.close(place, q, history, outcomes, done),
+            MemOp::Stop => self.halt(place, history, outcomes, done),
+        }
+    }
+}
