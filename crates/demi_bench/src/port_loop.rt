@@ -1,8 +1,9 @@
 //! Callers that each keep some operations in flight on one port, beside the device's thread.
-ghost use Rattle.std.specs.Prelude.{◌≡◌, ℕ, ◌+◌, ◌*◌, ◌<◌, ◌≤◌, [], length};
+ghost use Rattle.std.specs.Prelude.{◌≡◌, ℕ, ◌+◌, ◌*◌, ◌<◌, ◌≤◌, [], ◌∷◌, ◌++◌, length};
 ghost use Rattle.std.specs.Thread.{IsSync};
 ghost use Rattle.demi_port_core.specs.History.{Each};
-ghost use Rattle.demi_bench.specs.Asking.{IsEven, SameNumbers};
+ghost use Rattle.demi_port_core.specs.Twice.{IsTwice};
+ghost use Rattle.demi_bench.specs.Asking.{AllHaveAsked, HasAsked, IsEven};
 
 use crate::doubler::{Doubler, TOKENS};
 use demi_port::{DeviceSeat, Port, PortPass, Redeem};
@@ -22,6 +23,7 @@ pub const IN_FLIGHT: u32 = 8;
 fn submit<R: Wait>(rt: &R, port: &Port<Doubles>, pass: &mut PortPass<Doubles>, op: u32) -> Token
     requires { pass.old.port ≡ port.now }
     ensures same { (pass.new.port ≡ pass.old.port) × (pass.new.number ≡ pass.old.number) }
+    ensures submitted { (p : ℕ) × (pass.new.submitted ≡ pass.old.submitted ++ (p, (result.0, op)) ∷ []) }
     ensures one { (length pass.new.submitted ≡ length pass.old.submitted + 1) × (pass.new.redeemed ≡ pass.old.redeemed) }
 {
     for _ in rt.forever() {
@@ -37,6 +39,7 @@ fn submit<R: Wait>(rt: &R, port: &Port<Doubles>, pass: &mut PortPass<Doubles>, o
 fn redeem<R: Wait>(rt: &R, port: &Port<Doubles>, pass: &mut PortPass<Doubles>, token: Token) -> u64
     requires { pass.old.port ≡ port.now }
     ensures same { (pass.new.port ≡ pass.old.port) × (pass.new.number ≡ pass.old.number) }
+    ensures redeemed { (p : ℕ) × (pass.new.redeemed ≡ pass.old.redeemed ++ (p, token.0) ∷ []) × IsTwice pass.new.heard p result }
     ensures one { (pass.new.submitted ≡ pass.old.submitted) × (length pass.new.redeemed ≡ length pass.old.redeemed + 1) }
 {
     for _ in rt.forever() {
@@ -52,8 +55,8 @@ fn redeem<R: Wait>(rt: &R, port: &Port<Doubles>, pass: &mut PortPass<Doubles>, t
 fn call<R: Wait>(rt: &R, port: &Port<Doubles>, pass: &mut PortPass<Doubles>, operations: u32) -> u32
     requires { IsEven port.now pass.old }
     ensures even { IsEven port.now pass.new }
-    ensures all { length pass.new.submitted ≡ length pass.old.submitted + operations }
-    ensures number { pass.new.number ≡ pass.old.number }
+    ensures asked { HasAsked operations pass.old pass.new }
+    ensures right { result ≤ operations }
 {
     let mut tokens = [Token(0); IN_FLIGHT as usize];
     let mut right = 0;
@@ -82,7 +85,7 @@ fn call_all<R: Threads + Wait + Sync>(
 )
     requires { Each (IsEven port.now) passes.old }
     ensures even { Each (IsEven port.now) passes.new }
-    ensures numbers { SameNumbers passes.old passes.new }
+    ensures asked { AllHaveAsked operations passes.old passes.new }
 {
     let callers = passes.len().max(1);
     for_each_mut(
@@ -91,7 +94,7 @@ fn call_all<R: Threads + Wait + Sync>(
         callers,
         &|_, pass: &mut PortPass<Doubles>|
             requires { IsEven port.now pass.now }
-            ensures { IsEven port.entry.now pass.exit.now × (pass.exit.now.number ≡ pass.entry.now.number) }
+            ensures { IsEven port.entry.now pass.exit.now × HasAsked operations pass.entry.now pass.exit.now }
         {
             let one = call(rt, port, pass, operations);
             right.fetch_add(one as u64, Ordering::SeqCst);
@@ -111,7 +114,7 @@ fn run_both<R: Threads + Wait + Sync>(
     requires passes { Each (IsEven port.now) passes.old × (length passes.old ≤ 64) }
     requires new { (seat.old.fetched ≡ []) × (seat.old.finished ≡ []) }
     ensures even { Each (IsEven port.now) passes.new }
-    ensures numbers { SameNumbers passes.old passes.new }
+    ensures asked { AllHaveAsked operations passes.old passes.new }
     ensures seat { (seat.new.port ≡ seat.old.port) × (seat.new.passes ≡ seat.old.passes) }
 {
     let all = operations as u64 * passes.len() as u64;
@@ -119,7 +122,7 @@ fn run_both<R: Threads + Wait + Sync>(
     let counted = &right;
     let mut callers = ||
         requires { IsSync R.row × Each (IsEven port.now) passes.now }
-        ensures { Each (IsEven port.entry.now) passes.exit.now × SameNumbers passes.entry.now passes.exit.now }
+        ensures { Each (IsEven port.entry.now) passes.exit.now × AllHaveAsked operations passes.entry.now passes.exit.now }
     { call_all(rt, port, operations, counted, passes) };
     let mut device = ||
         requires { (seat.now.port ≡ port.now) × (port.now.tokens.slots ≡ TOKENS) × (seat.now.fetched ≡ []) × (seat.now.finished ≡ []) }
