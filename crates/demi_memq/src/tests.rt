@@ -5,7 +5,7 @@ ghost use Rattle.std.specs.Prelude.{◌≡◌};
 use crate::MemOp;
 use bench::{
     Got, answer, answer_four, ask, ask_three, device_on, end, free_at_end, port_on, push,
-    two_passes,
+    push_many, two_passes,
 };
 use std::test::Fail;
 
@@ -78,5 +78,33 @@ fn a_stop_ends_a_pop_that_waits(rt: HostRuntime) -> Result<(), Fail> {
         ]
     );
     assert_eq!(rt; free, 2);
+    Ok(())
+}
+
+#[test]
+fn a_full_queue_takes_a_push_again_after_a_pop(rt: HostRuntime) -> Result<(), Fail> {
+    let (heap, mine, mut app) = two_passes(&rt, rt.alloc(), 1026);
+    let (port, mut passes, seat) = port_on(&rt, rt.alloc(), &heap);
+    let mut device = device_on(&rt, rt.alloc(), &heap, mine, seat);
+    let pass = &mut passes[0];
+    let queue = ask(&rt, &port, pass, MemOp::Queue);
+    let _one = device.turn(&port);
+    let opened = answer(&rt, &heap, &mut app, &port, pass, queue);
+    let taken = push_many(&rt, &heap, &mut app, &port, pass, &mut device, 1024);
+    let beyond = push(&rt, &heap, &mut app, &port, pass, 0, 0x79);
+    let pop = ask(&rt, &port, pass, MemOp::Pop { q: 0 });
+    let again = push(&rt, &heap, &mut app, &port, pass, 0, 0x7a);
+    let stop = ask(&rt, &port, pass, MemOp::Stop);
+    let _four = device.turn(&port);
+    let outs = [beyond, pop, again, stop];
+    let outs = answer_four(&rt, &heap, &mut app, &port, pass, outs);
+    let mine = end(&rt, &heap, port, device, passes);
+    let free = free_at_end(&rt, rt.alloc(), heap, mine, app);
+    assert_eq!(rt; (opened, taken), (Got::Opened(0), 1024));
+    assert_eq!(rt;
+        outs,
+        [Got::QueueFull, Got::Item(0x78), Got::Pushed, Got::Halted]
+    );
+    assert_eq!(rt; free, 1026);
     Ok(())
 }

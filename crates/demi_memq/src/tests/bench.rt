@@ -311,3 +311,50 @@ pub(crate) fn end<'h>(
     let _tickets = port.close(seat, passes).tickets();
     engine.parts()
 }
+
+/// Pushes an array and answers it at once.
+fn push_one(
+    rt: &impl Abort,
+    heap: &Heap,
+    app: &mut HeapPass,
+    port: &Port<MemLaw>,
+    pass: &mut PortPass<MemLaw>,
+    device: &mut Device<MemEngine>,
+) -> Got
+    requires port { (pass.old.port ≡ port.now) × (port.now.key.base ≡ heap.now) × (device.old.seat.port ≡ port.now) }
+    requires heap { app.old.heap ≡ heap.now }
+    ensures app { app.new.heap ≡ heap.now }
+    ensures same { (pass.new.port ≡ pass.old.port) × (pass.new.number ≡ pass.old.number) }
+    ensures even { length pass.new.submitted + length pass.old.redeemed ≡ length pass.old.submitted + length pass.new.redeemed }
+    ensures device { (device.new.seat.port ≡ device.old.seat.port) × (device.new.seat.passes ≡ device.old.seat.passes) × (device.new.engine.pass.heap ≡ device.old.engine.pass.heap) }
+{
+    let token = push(rt, heap, app, port, pass, 0, 0x78);
+    let _one = device.turn(port);
+    answer(rt, heap, app, port, pass, token)
+}
+
+/// Pushes so many arrays. How many were taken.
+pub(crate) fn push_many(
+    rt: &impl Abort,
+    heap: &Heap,
+    app: &mut HeapPass,
+    port: &Port<MemLaw>,
+    pass: &mut PortPass<MemLaw>,
+    device: &mut Device<MemEngine>,
+    n: u32,
+) -> u32
+    requires port { (pass.old.port ≡ port.now) × (port.now.key.base ≡ heap.now) × (device.old.seat.port ≡ port.now) }
+    requires heap { app.old.heap ≡ heap.now }
+    ensures app { app.new.heap ≡ heap.now }
+    ensures same { (pass.new.port ≡ pass.old.port) × (pass.new.number ≡ pass.old.number) }
+    ensures even { length pass.new.submitted + length pass.old.redeemed ≡ length pass.old.submitted + length pass.new.redeemed }
+    ensures device { (device.new.seat.port ≡ device.old.seat.port) × (device.new.seat.passes ≡ device.old.seat.passes) × (device.new.engine.pass.heap ≡ device.old.engine.pass.heap) }
+{
+    let mut taken = 0u32;
+    for _ in 0..n {
+        if push_one(rt, heap, app, port, pass, device) == Got::Pushed {
+            taken = taken.wrapping_add(1);
+        }
+    }
+    taken
+}
