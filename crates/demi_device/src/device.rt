@@ -1,5 +1,5 @@
 //! An engine at a port.
-ghost use Rattle.std.specs.Prelude.{◌≡◌, ◌≤◌, [], IfErr, IfOk, length};
+ghost use Rattle.std.specs.Prelude.{◌≡◌, ◌≤◌, [], IfErr, IfOk, is_ok, length};
 ghost use Rattle.demi_port_core.specs.History.{Apart, ground_of};
 ghost use Rattle.demi_port_core.specs.Trails.{StartsWith};
 ghost use Rattle.demi_device.specs.Turning.{IsFresh, IsOver};
@@ -67,6 +67,7 @@ impl<E: Engine> Device<E> {
 
     /// Lets the engine give what it has to give to others. Of operations and outcomes nothing changes. It may wait.
     pub fn tend<R: Wait>(&mut self, rt: &R) -> Result<(), NoMemory>
+        ensures tends { E.tends self.old.engine (is_ok result) self.new.engine }
         ensures goes { E.goes self.old.engine self.new.engine }
         ensures base { E.base self.new.engine ≡ E.base self.old.engine }
         ensures room { E.room self.new.engine ≡ E.room self.old.engine }

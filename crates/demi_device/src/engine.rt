@@ -1,5 +1,5 @@
 //! What serves operations.
-ghost use Rattle.std.specs.Prelude.{◌≡◌, ℕ, ◌+◌, ◌<◌, List, [], ◌∷◌, ◌++◌, length, option_map};
+ghost use Rattle.std.specs.Prelude.{◌≡◌, ℕ, ◌+◌, ◌<◌, Bool, List, [], ◌∷◌, ◌++◌, is_ok, length, option_map};
 ghost use Rattle.demi_device.specs.Serving.{AllCome, EachMayPend, HasStop, NonePends, first_stop, places, trail};
 
 use crate::done::Done;
@@ -28,6 +28,9 @@ pub trait Engine {
     // What one engine may become by calls.
     ghost goes: { Self → Self → Type 0 };
 
+    // What a tend does: the engine before it, whether there was memory, and the engine after it.
+    ghost tends: { Self → Bool → Self → Type 0 };
+
     /// Serves the operation of the next place. Each outcome that is now there is added, be it of this operation or of an earlier one.
     fn serve(&mut self, place: Place, op: <Self::L as Law>::Op, done: &mut Done<Self::L>)
         requires next { place.0 ≡ length (served self.old) }
@@ -51,6 +54,7 @@ pub trait Engine {
 
     /// Gives what it has to give to others. Of operations and outcomes nothing changes. It may wait.
     fn tend<R: Wait>(&mut self, rt: &R) -> Result<(), NoMemory>
+        ensures tends { tends self.old (is_ok result) self.new }
         ensures base { base self.new ≡ base self.old }
         ensures room { room self.new ≡ room self.old }
         ensures served { served self.new ≡ served self.old }

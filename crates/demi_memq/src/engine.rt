@@ -115,6 +115,10 @@ impl<'h> Engine for MemEngine<'h> {
 
     ghost goes = { GoesTo };
 
+    ghost use Rattle.std.specs.Prelude.{true};
+
+    ghost tends = { λ a there b. (there ≡ true) × (b ≡ a) };
+
     fn serve(&mut self, place: Place, op: MemOp, done: &mut Done<MemLaw>) {
         let history = heard(&self.history, &op);
         self.queues

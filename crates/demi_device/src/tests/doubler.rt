@@ -1,5 +1,5 @@
 //! An engine of the tests.
-ghost use Rattle.std.specs.Prelude.{◌≡◌, ◌++◌, ◌==◌, [], ◌∷◌, IfNone, IfSome, None, cond, option_map};
+ghost use Rattle.std.specs.Prelude.{◌≡◌, ◌++◌, ◌==◌, [], ◌∷◌, IfNone, IfSome, None, cond, option_map, true};
 ghost use Rattle.demi_device.specs.Doubling.{doubled, first_zero};
 
 use crate::{Done, Engine, Mark};
@@ -93,6 +93,8 @@ impl Engine for Doubler {
     ghost finished = { λ e. doubled 0 e.history.value };
 
     ghost goes = { λ _ _. Unit {0} };
+
+    ghost tends = { λ a there b. (there ≡ true) × (b ≡ a) };
 
     fn serve(&mut self, place: Place, op: u32, done: &mut Done<UntilZero>) {
         done.add(place, op as u64 * 2);
