@@ -28,12 +28,12 @@ fn first_link<W: World>(alloc: Global, world: &mut W) -> Result<(W::In, W::Out),
     ensures print_faults { W.print_faults world.new ≡ W.print_faults world.old }
 {
     let mut links = world.links(alloc, &Site::Standard, 1)?;
-    let first = links.pop();
+    let Some(first) = links.pop() else {
+        // Exactly one link was asked for, so one was given.
+        unreachable!();
+    };
     links.destroy_empty();
-    match first {
-        Some(link) => Ok(link),
-        None => Err(Halt::NoMemory),
-    }
+    Ok(first)
 }
 
 // The outcome of a run over a link.

@@ -2,4 +2,5 @@
 mod answers;
 mod faults;
 mod in_memory;
+mod real_files;
 mod whole_runs;

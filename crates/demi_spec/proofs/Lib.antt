@@ -4,3 +4,6 @@ pub mod Parsing
 pub mod Serial
 pub mod LogTexts
 pub mod Payloads
+pub mod LogReads
+pub mod RecordReads
+pub mod ReplyReads

@@ -41,7 +41,7 @@ record_again r h =
 payload_fits : (r : Record) → IsRecord r → IsPayload (payload r)
 payload_fits r h = let a = h.key.0 in let b = h.key.1 in let c = h.value in (omega (arith, length-append r.key r.value), omega (arith, length-append r.key r.value))
 
-all_fit : (rs : List Record) → AllByRecursion IsRecord rs → AllByRecursion IsPayload (map payload rs)
+pub all_fit : (rs : List Record) → AllByRecursion IsRecord rs → AllByRecursion IsPayload (map payload rs)
 all_fit [] h = tt
 all_fit (r ∷ rs) h = (payload_fits r h.0, all_fit rs h.1)
 

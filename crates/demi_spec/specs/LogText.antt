@@ -52,3 +52,25 @@ entries_within (suc n) at (b ∷ bytes) = after_entry at (b ∷ bytes) (entry_fr
 unfoldable pub entries : List ℕ → Result (List (List ℕ)) ℕ
 entries [] = Ok []
 entries (b ∷ bytes) = if bytes_eq (take 8 (b ∷ bytes)) header then entries_within (length (b ∷ bytes)) 8 (drop 8 (b ∷ bytes)) else Err 0
+
+-- no entry stands whole at the front of a text
+abbrev pub NoEntry : List ℕ → Type 0
+NoEntry text = (payload more : List ℕ) → IsPayload payload → text ≡ entry payload ++ more → ⊥
+
+-- a text that is not empty and does not begin with the header
+abbrev pub HasNoHeader : List ℕ → Type 0
+HasNoHeader bytes = (0 < length bytes) × ((rest : List ℕ) → bytes ≡ header ++ rest → ⊥)
+
+-- Up to this offset a text is a header and whole entries. More follows there, and no entry stands whole.
+pub record BadFrom (bytes : List ℕ) (at : ℕ) : Type 0 where
+  pub before : List (List ℕ)
+  pub rest : List ℕ
+  pub fits : AllByRecursion IsPayload before
+  pub text : bytes ≡ log_text before ++ rest
+  pub place : at ≡ length (log_text before)
+  pub some : 0 < length rest
+  pub none : NoEntry rest
+
+-- the first byte that neither the header nor a whole entry has
+abbrev pub IsBadAt : List ℕ → ℕ → Type 0
+IsBadAt bytes at = (HasNoHeader bytes × (at ≡ 0)) ⊎ BadFrom bytes at

@@ -1,7 +1,8 @@
 -- A record is a payload of a form: which request of which link put which value under which key.
-use Rattle.std.specs.Prelude.{ℕ, ◌+◌, ◌<◌, ◌≤◌, ◌||◌, ◌==◌, nat_lt, if◌then◌else◌, List, [], ◌∷◌, ◌++◌, length, take, drop, map, flat_map, slice_index, Option, Some, None, Result, Ok, Err}
+use Rattle.std.specs.Prelude.{◌≡◌, ℕ, ◌+◌, ◌<◌, ◌≤◌, ◌⊎◌, ◌||◌, ◌==◌, nat_lt, if◌then◌else◌, List, [], ◌∷◌, ◌++◌, length, take, drop, map, flat_map, slice_index, Option, Some, None, Result, Ok, Err}
 use Rattle.std.specs.Int.{w16, w32, to_be_bytes, from_be_bytes}
-use Rattle.demi_spec.specs.LogText.{entry, log_text, entries, put_first}
+use Rattle.std.specs.List.{AllByRecursion}
+use Rattle.demi_spec.specs.LogText.{entry, log_text, IsPayload, IsBadAt, entries, put_first}
 
 -- links, and the requests of a link, are numbered from 0
 pub record Record : Type 0 where
@@ -58,3 +59,26 @@ records_in (Err at) = Err at
 -- whatever the payloads before it are.
 abbrev pub records : List ℕ → Result (List Record) ℕ
 records bytes = records_in (entries bytes)
+
+-- a log text whose payloads are those of these records
+abbrev pub IsRecordLog : List ℕ → List Record → Type 0
+IsRecordLog bytes rs = ((bytes ≡ []) × (rs ≡ [])) ⊎ ((bytes ≡ log_of rs) × AllByRecursion IsRecord rs)
+
+-- no record in range has this payload
+abbrev pub NoRecord : List ℕ → Type 0
+NoRecord bytes = (r : Record) → IsRecord r → bytes ≡ payload r → ⊥
+
+-- a log text in which the entry at this offset holds no record, and each before it holds one
+pub record BadRecord (bytes : List ℕ) (at : ℕ) : Type 0 where
+  pub before : List Record
+  pub bad : List ℕ
+  pub more : List (List ℕ)
+  pub fits : AllByRecursion IsRecord before
+  pub whole : AllByRecursion IsPayload (bad ∷ more)
+  pub text : bytes ≡ log_text (map payload before ++ bad ∷ more)
+  pub place : at ≡ length (log_of before)
+  pub none : NoRecord bad
+
+-- The first bad byte of a text as a log of records. A bad entry comes first, wherever it stands.
+abbrev pub IsBadRecordAt : List ℕ → ℕ → Type 0
+IsBadRecordAt bytes at = IsBadAt bytes at ⊎ BadRecord bytes at

@@ -6,4 +6,7 @@
 
 mod laws;
 
-pub use laws::{a_log_text_is_read_back, a_text_has_one_reading, what_was_answered_stays};
+pub use laws::{
+    a_log_text_has_one_reading, a_log_text_is_read_back, a_text_has_one_reading,
+    no_reply_begins_another, what_was_answered_stays,
+};
