@@ -72,10 +72,10 @@ impl MemDisk {
 }
 
 impl Disk for MemDisk {
-    ghost use Rattle.std.specs.Prelude.{refl, List, Some, ◌+◌, ◌-◌, ◌⊎◌, ◌↔◌, length, take, drop, min, IfOk, OnOk, OnErr, IsErr, IfSome};
+    ghost use Rattle.std.specs.Prelude.{refl, Bool, is_ok, List, Some, ◌+◌, ◌-◌, ◌⊎◌, ◌↔◌, length, take, drop, min, IfOk, OnOk, OnErr, IsErr, IfSome};
     ghost use Rattle.std.specs.Io.KnownBytes.{append_known};
     ghost use Rattle.demi_core.specs.Outside.{HasCause, GrowsByFront, Cut, disk_max};
-    ghost use Rattle.demi_core.specs.Fakes.{AppendFails, CutFails, DiskReadFails, counted, disk_bytes, disk_faults, disk_held, disk_reads, disk_room, disk_writes};
+    ghost use Rattle.demi_core.specs.Fakes.{AppendFails, CutFails, DiskAppends, DiskCuts, DiskLooks, DiskReadFails, counted, looks_same, looks_on, disk_bytes, disk_faults, disk_held, disk_reads, disk_room, disk_writes};
 
     ghost held = { disk_held };
 
@@ -83,12 +83,23 @@ impl Disk for MemDisk {
 
     ghost faults = { disk_faults };
 
+    ghost appends = { DiskAppends };
+
+    ghost cuts = { DiskCuts };
+
+    ghost looks = { DiskLooks };
+
+    ghost looks_same = { looks_same };
+
+    ghost looks_on = { looks_on };
+
     ghost told_held = { λ d. refl };
 
     ghost told_bytes = { λ d. d.told };
 
     // The clauses of the trait, and when the call fails.
     fn size(&mut self) -> Result<u64, Failed>
+        ensures call { DiskLooks self.old self.new }
         ensures held { IfOk result (λ size. (size ≡ disk_held self.old) × (size ≤ disk_max)) }
         ensures same_held { disk_held self.new ≡ disk_held self.old }
         ensures same_bytes { disk_bytes self.new ≡ disk_bytes self.old }
@@ -108,6 +119,7 @@ impl Disk for MemDisk {
     // The clauses of the trait, when the call fails, and that it gives all that fits the room.
     fn read_at(&mut self, at: u64, room: &mut [u8]) -> Result<usize, Failed>
         requires { 0 < length room.old }
+        ensures call { DiskLooks self.old self.new }
         ensures within { IfOk result (λ k. k ≤ length room.new) }
         ensures there { IfOk result (λ k. k ≤ disk_held self.old - at) }
         ensures end { IfOk result (λ k. (k ≡ 0) ↔ (disk_held self.old ≤ at)) }
@@ -138,6 +150,7 @@ impl Disk for MemDisk {
 
     // The clauses of the trait, when the call fails, and that it leaves the bytes there.
     fn append(&mut self, piece: &[u8]) -> Result<(), Failed>
+        ensures call { DiskAppends self.old piece.now (is_ok result) self.new }
         ensures bytes { OnOk result (disk_bytes self.new ≡ append_known (disk_bytes self.old) piece.now) }
         ensures held { OnOk result (disk_held self.new ≡ disk_held self.old + length piece.now) }
         ensures most { OnOk result (disk_held self.new ≤ disk_max) }
@@ -167,6 +180,7 @@ impl Disk for MemDisk {
     // The clauses of the trait, when the call fails, and that it leaves the bytes there.
     fn cut(&mut self, len: u64) -> Result<(), Failed>
         requires { len ≤ disk_held self.old }
+        ensures call { DiskCuts self.old len (is_ok result) self.new }
         ensures cut { OnOk result (Cut (disk_bytes self.old) (disk_bytes self.new) (disk_held self.new) len) }
         ensures most { OnOk result (disk_held self.old ≤ disk_max) }
         ensures failed { OnErr result (Cut (disk_bytes self.old) (disk_bytes self.new) (disk_held self.new) len
