@@ -1,0 +1,23 @@
+//! A log: entries that are appended to a disk, read back and cut.
+//!
+//! `Log` reads any disk as a log text, or gives an empty one its header, and then appends, reads and cuts entries by
+//! their number. Its clauses say what the disk holds, where it tells its bytes, and which calls of the disk were made:
+//! an entry is appended by one append, and a cut is one cut.
+//! Not promised: that a disk keeps what was appended to it once the program has ended.
+#![tactic(auto)]
+
+mod ahead;
+mod find;
+mod log;
+mod opening;
+mod reading;
+mod refusal;
+mod sizes;
+mod staging;
+#[cfg(test)]
+mod tests;
+
+pub use ahead::Ahead;
+pub use log::Log;
+pub use refusal::LogRefusal;
+pub use sizes::MAX_PAYLOAD_BYTES;
