@@ -111,6 +111,10 @@ pub record FitsDevice {S R D T B : Type 0} (key : Key B) (records : TableId) (co
 abbrev pub OnlyLooked : {D T B : Type 0} → PassValue D T B → PassValue D T B → Type 0
 OnlyLooked v w = w ≡ record v { clock = w.clock; looks = w.looks }
 
+-- the pass has looked more, and later
+abbrev pub Later : {D T B : Type 0} → PassValue D T B → PassValue D T B → Type 0
+Later v w = (v.clock ≤ w.clock) × StartsWith w.looks v.looks
+
 -- at a step of a call that brought the pass from v to w, it found n in the word k
 abbrev pub Saw : {D T B : Type 0} → PassValue D T B → PassValue D T B → ℕ → ℕ → Type 0
 Saw v w k n = (t : ℕ) × (q : ℕ) × (v.clock ≤ t) × (get_elem? w.looks q ≡ some (t, (k, n)))

@@ -67,6 +67,7 @@ impl<L: Law> Port<L> {
         ensures once { (t : ℕ) → total (λ p. times t p.redeemed) passes.items ≤ 1 }
         ensures trail { result.trail ≡ seat.trail }
         ensures fetched { StartsWith (says result.history) (ground_of seat.fetched) }
+        ensures all { length result.history ≡ length seat.fetched }
         ensures heard { StartsWith (says result.history) result.heard }
         ensures behind { Each (λ p. Behind (known_at result) (known_by p)) passes.items }
     {
