@@ -7,7 +7,7 @@ use Rattle.demi_port_core.specs.declared.view.Role.TheVariants.{Pass, Device}
 use Rattle.demi_port_core.specs.declared.view.Stage.TheVariants.{Idle}
 use Rattle.demi_port_core.specs.declared.view.View.{View}
 use Rattle.demi_port_core.specs.declared.trail.Trail.{Trail}
-use Rattle.demi_port_core.specs.History.{Each, Among, ground_of}
+use Rattle.demi_port_core.specs.History.{Apart, Each, Among, ground_of}
 use Rattle.demi_port_core.specs.Phases.{token_of, last_round}
 use Rattle.demi_port_core.specs.Seats.{submitted, bare_view}
 use Rattle.demi_port_core.specs.Told.{OwesNothing, clear}
@@ -91,7 +91,7 @@ abbrev pub above_all : List (ℕ × ℕ) → ℕ
 above_all [] = 0
 above_all (x ∷ xs) = max (x.0 + 1) (above_all xs)
 
--- the device's seats between two calls: what it knows of the history begins the operations that it fetched, and it owes no wake
+-- the device's seats between two calls: what it knows of the history begins the operations that it fetched, and is all of them where no outcome is to come. It owes no wake
 pub record FitsDevice {S R D T B : Type 0} (key : Key B) (records : TableId) (count : ℕ) (me : Me S (View D (Key B))) (knows : Me R (Trail D T)) : Type 0 where
   pub keyed : me.0.key ≡ Some key
   pub tied : records ≡ key.records
@@ -103,6 +103,8 @@ pub record FitsDevice {S R D T B : Type 0} (key : Key B) (records : TableId) (co
   pub handed : knows.0.handed ≡ []
   pub bare : knows.1 ≡ []
   pub begins : StartsWith (ground_of me.0.fetched) knows.0.heard
+  pub ready : me.0.pending ≡ [] → knows.0.heard ≡ ground_of me.0.fetched
+  pub apart : Apart me.0.fetched
   pub floor : knows.0.floor ≡ above_all me.0.finished
   pub left : Each (IsLeft count me.0.finished me.0.pending) me.0.fetched
   pub paid : OwesNothing me.0

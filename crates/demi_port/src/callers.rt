@@ -1,6 +1,5 @@
 //! The calls of a pass.
 ghost use Rattle.std.specs.Prelude.{◌≡◌, ℕ, ◌+◌, ◌*◌, ◌/◌, ◌%◌, ◌<◌, ◌≤◌, ◌⊎◌, [], ◌∷◌, ◌++◌, IfOk, IfErr, max, replicate, bit_and, bit_or, slice_index_or};
-ghost use Rattle.std.specs.Int.{bit_not, w64};
 ghost use Rattle.demi_port_core.specs.History.{Among, times};
 ghost use Rattle.demi_port_core.specs.Phases.{last_round};
 ghost use Rattle.demi_port_core.specs.Told.{clear};
@@ -30,6 +29,7 @@ impl<L: Law> Port<L> {
         ensures same { (pass.new.port ≡ pass.old.port) × (pass.new.number ≡ pass.old.number) }
         ensures ok { IfOk result (λ r. (pass.old.seen ≤ r.1.0) × (pass.new ≡ record pass.old { clock = pass.new.clock; looks = pass.new.looks; seen = r.1.0 + 1; submitted = pass.old.submitted ++ (r.1.0, (r.0.0, L.said op)) ∷ [] })) }
         ensures token { IfOk result (λ r. (r.0.0 % 1024 < self.now.tokens.slots) × (r.0.0 / 1024 < last_round)) }
+        ensures fresh { IfOk result (λ r. (q : ℕ) (d : L.Said) → Among (q, (r.0.0, d)) pass.old.submitted → ⊥) }
         ensures looks { Later pass.old pass.new }
         ensures full { IfErr result (λ e. (e.0 ≡ op) × OnlyLooked pass.old pass.new × ((i : ℕ) → i < self.now.tokens.slots → Missed pass.old pass.new i)) }
     {
@@ -63,7 +63,7 @@ impl<L: Law> Port<L> {
     /// The waker bits of the mask that were set at this call's step, which are cleared. All others stay.
     pub fn scan(&self, pass: &mut PortPass<L>, mask: &Mask) -> Bits
         requires port { pass.old.port ≡ self.now }
-        ensures bits { (t : ℕ) × (n : ℕ) × (pass.old.clock ≤ t) × (result.words ≡ bit_and n (slice_index_or mask.now.words 0 0) ∷ replicate 15 0) × (pass.new ≡ record pass.old { clock = t + 1; looks = pass.old.looks ++ (t, (2, n)) ∷ []; owes = bit_or pass.old.owes (bit_and n (bit_not w64 (bit_not w64 (slice_index_or mask.now.words 0 0)))) }) }
+        ensures bits { (t : ℕ) × (n : ℕ) × (pass.old.clock ≤ t) × (result.words ≡ bit_and n (slice_index_or mask.now.words 0 0) ∷ replicate 15 0) × (pass.new ≡ record pass.old { clock = t + 1; looks = pass.old.looks ++ (t, (2, n)) ∷ []; owes = bit_or pass.old.owes (bit_and n (slice_index_or mask.now.words 0 0)) }) }
     {
         Bits::first_block(self.tables.scan(&mut pass.pair, mask.words[0]))
     }
