@@ -70,14 +70,19 @@ pass_value z k v t = record { port = record { tokens = z; key = k }; number = v.
 abbrev pub device_value : {D T B : Type 0} → TableId → Key B → View D (Key B) → Trail D T → DeviceValue D T B
 device_value z k v t = record { port = record { tokens = z; key = k }; passes = v.number; clock = v.clock; looks = v.looks; rang = v.rang; fetched = v.fetched; finished = v.finished; trail = t.told; owes = v.owes }
 
+-- a token of a port with so many, of a round in which it can be had
+abbrev pub InRange : ℕ → ℕ → Type 0
+InRange count token = (token % 1024 < count) × (token / 1024 < last_round)
+
 -- the seats of a pass between two calls
-pub record FitsPass {S R D T B : Type 0} (key : Key B) (records : TableId) (me : Me S (View D (Key B))) (knows : Me R (Trail D T)) : Type 0 where
+pub record FitsPass {S R D T B : Type 0} (key : Key B) (records : TableId) (count : ℕ) (me : Me S (View D (Key B))) (knows : Me R (Trail D T)) : Type 0 where
   pub keyed : me.0.key ≡ Some key
   pub tied : records ≡ key.records
   pub role : me.0.role ≡ Pass
   pub stage : me.0.stage ≡ Idle
   pub slots : me.1 ≡ []
   pub alone : me.0.gathered ≡ []
+  pub tokens : Each (λ (x : ℕ × (ℕ × D)). InRange count x.1.0) me.0.mine
   pub plain : knows.0.device ≡ false
   pub handed : knows.0.handed ≡ []
   pub bare : knows.1 ≡ []

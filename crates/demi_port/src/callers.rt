@@ -1,11 +1,11 @@
 //! The calls of a pass.
-ghost use Rattle.std.specs.Prelude.{◌≡◌, ℕ, ◌+◌, ◌*◌, ◌/◌, ◌%◌, ◌<◌, ◌≤◌, ◌⊎◌, [], ◌∷◌, ◌++◌, IfOk, IfErr, max, replicate, bit_and, bit_or, slice_index_or};
-ghost use Rattle.demi_port_core.specs.History.{Among, times};
+ghost use Rattle.std.specs.Prelude.{◌≡◌, ◌≢◌, ℕ, ◌+◌, ◌*◌, ◌/◌, ◌%◌, ◌<◌, ◌≤◌, ◌⊎◌, [], ◌∷◌, ◌++◌, IfOk, IfErr, max, replicate, bit_and, bit_or, slice_index_or};
+ghost use Rattle.demi_port_core.specs.History.{Among, Each, times};
 ghost use Rattle.demi_port_core.specs.Phases.{last_round};
 ghost use Rattle.demi_port_core.specs.Told.{clear};
 ghost use Rattle.demi_port_core.specs.Trails.{Behind};
 ghost use Rattle.demi_port.specs.Tries.{IfReady, IfNotYet, IfSpent, IfUnknown};
-ghost use Rattle.demi_port.specs.Seen.{Later, Saw, OnlyLooked, Missed, Found, known_by};
+ghost use Rattle.demi_port.specs.Seen.{InRange, Later, Saw, OnlyLooked, Missed, Found, known_by};
 
 use crate::note::Note;
 use crate::pass::PortPass;
@@ -28,8 +28,8 @@ impl<L: Law> Port<L> {
         requires proper { L.proper self.now.key.base (L.said op) }
         ensures same { (pass.new.port ≡ pass.old.port) × (pass.new.number ≡ pass.old.number) }
         ensures ok { IfOk result (λ r. (pass.old.seen ≤ r.1.0) × (pass.new ≡ record pass.old { clock = pass.new.clock; looks = pass.new.looks; seen = r.1.0 + 1; submitted = pass.old.submitted ++ (r.1.0, (r.0.0, L.said op)) ∷ [] })) }
-        ensures token { IfOk result (λ r. (r.0.0 % 1024 < self.now.tokens.slots) × (r.0.0 / 1024 < last_round)) }
-        ensures fresh { IfOk result (λ r. (q : ℕ) (d : L.Said) → Among (q, (r.0.0, d)) pass.old.submitted → ⊥) }
+        ensures token { IfOk result (λ r. InRange self.now.tokens.slots r.0.0) }
+        ensures fresh { IfOk result (λ r. Each (λ x. x.1.0 ≢ r.0.0) pass.old.submitted) }
         ensures looks { Later pass.old pass.new }
         ensures full { IfErr result (λ e. (e.0 ≡ op) × OnlyLooked pass.old pass.new × ((i : ℕ) → i < self.now.tokens.slots → Missed pass.old pass.new i)) }
     {
@@ -52,7 +52,7 @@ impl<L: Law> Port<L> {
         ensures once { IfReady result (λ _ _. times token.0 pass.old.redeemed ≡ 0) }
         ensures looks { Later pass.old pass.new }
         ensures grows { Behind (known_by pass.new) (known_by pass.old) }
-        ensures known { IfUnknown result ((q : ℕ) (d : L.Said) → Among (q, (token.0, d)) pass.old.submitted → token.0 % 1024 < self.now.tokens.slots → token.0 / 1024 < last_round → ⊥) }
+        ensures known { IfUnknown result (Each (λ x. x.1.0 ≢ token.0) pass.old.submitted) }
         ensures not_yet { IfNotYet result (Found pass.old pass.new token.0 (λ n. n ≡ token.0 / 1024 * 8 + 1)) }
         ensures spent { IfSpent result (Found pass.old pass.new token.0 (λ n. (token.0 / 1024 < n / 8) ⊎ (n ≡ token.0 / 1024 * 8 + 3))) }
         ensures unknown { IfUnknown result ((((self.now.tokens.slots ≤ token.0 % 1024) ⊎ (last_round ≤ token.0 / 1024)) × (pass.new ≡ pass.old)) ⊎ Found pass.old pass.new token.0 (λ n. (n / 8 < token.0 / 1024) ⊎ (n ≡ token.0 / 1024 * 8))) }
