@@ -22,8 +22,8 @@ use demi_port_core::{Law, Place, Slip, Token, Trail};
 
 impl<L: Law> Port<L> {
     /// Redeems the token if its operation is finished, and gives the operation's place and outcome: `Ready` only where this call found the token done.
-    /// Each other answer says what was found. `Unknown` is never one for a token with which this pass has submitted.
-    /// The pass then knows the ground and the trail that the outcome stands on, by which the law admits it, and none of them is ever taken back.
+    /// The pass knows then the ground and the trail that the outcome stands on, by which the law admits it, and none of them is ever taken back.
+    /// Each other answer says what this call found. `Unknown` is never one for a token with which this pass has submitted.
     pub fn try_wait(&self, pass: &mut PortPass<L>, token: Token) -> Redeem<L>
         requires port { pass.old.port ≡ self.now }
         ensures same { (pass.new.port ≡ pass.old.port) × (pass.new.number ≡ pass.old.number) }
