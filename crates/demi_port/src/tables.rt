@@ -1,4 +1,7 @@
 //! The two tables of a port, and the seats of a pass or of the device on both.
+//!
+//! Word 0 of the token table is the ticket, word 1 has the doorbell bits, word 2 the waker bits, and word `i + 3` is that
+//! of the token `i`, whose slot is `i`. The record table has one word, which is always 0, and no slots.
 ghost use Rattle.std.specs.Prelude.{◌≡◌, ◌+◌, ◌≤◌};
 ghost use Rattle.atomic_table.specs.Seated.{table_id_coded};
 ghost use Rattle.std.specs.Coded.{Coded-set};
@@ -26,7 +29,7 @@ pub(crate) struct Tables<L: Law> {
     >,
     pub(crate) records: Table<(), Trail<L::Said, L::Told>, (), Records, Global>,
     pub(crate) count: u32,
-    ghost sized: { (table.shared.table_id.words ≡ count + 3) × (table.shared.table_id.slots ≡ count) × (count ≤ 64) },
+    ghost sized: { (table.shared.table_id.words ≡ count + 3) × (table.shared.table_id.slots ≡ count) × (count ≤ 64) × (1 ≤ count) },
     ghost one_word: { (records.shared.table_id.words ≡ 1) × (records.shared.table_id.slots ≡ 0) },
     ghost tied: { table.shared.key.records ≡ records.shared.table_id } by { Coded-set table_id_coded table.shared.key.records records.shared.table_id },
 }
