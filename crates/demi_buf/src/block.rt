@@ -1,5 +1,6 @@
 ghost use Rattle.std.specs.Prelude.{◌≡◌, ◌≤◌, vec_len, vec_capacity, IfOk};
-ghost use denote.RawPtr.{Ptr};
+ghost use Rattle.std.specs.Vec.{vec_ptr};
+ghost use denote.RawPtr.{block_of};
 ghost use Rattle.demi_buf.specs.Bufs.{carved, IsSuperblock, size_of};
 
 use crate::buf::{Buf, Place};
@@ -12,10 +13,10 @@ pub struct Block;
 
 impl Block {
     /// `n` buffers, numbered from 0, all of length 0.
-    /// The vector has room for all of them, also once it is emptied.
+    /// The vector has room for all of them, also once it is emptied. Where it lies is which superblock they are of.
     pub fn carve(alloc: Global, class: Class, n: u32) -> Result<Vec<Buf>, NoMemory>
         requires { (1 ≤ n) × (n ≤ 64) }
-        ensures bufs { IfOk result (λ v. (block : Ptr) × (v.items ≡ carved block class n n)) }
+        ensures bufs { IfOk result (λ v. v.items ≡ carved (block_of (vec_ptr v)) class n n) }
         ensures room { IfOk result (λ v. (vec_len v ≡ n) × (n ≤ vec_capacity v)) }
     {
         let Ok(mut bufs) = Vec::with_capacity(alloc, n as usize) else {
@@ -25,7 +26,9 @@ impl Block {
             bufs.destroy_empty();
             return Err(NoMemory);
         };
-        let place = Place { row: room.as_ptr() };
+        let place = Place {
+            row: bufs.as_ptr().cast::<u8>(),
+        };
         bufs.push_reserved(Buf {
             place,
             count: n,

@@ -6,10 +6,10 @@ ghost use Rattle.demi_buf.specs.contracts.buf.Buf.{the_row};
 use crate::class::Class;
 use std::marker::Model;
 
-/// Where the first row of a superblock lies: no two superblocks that are there at once share it.
+/// Where the vector lies that a carve gave. While that vector is there, no other superblock has its place.
 #[derive(Clone, Copy)]
-pub struct Place {
-    pub row: *const u8,
+pub(crate) struct Place {
+    pub(crate) row: *const u8,
 }
 
 unsafe impl Send for Place {}
@@ -27,11 +27,12 @@ pub struct Buf {
 
 impl Model for Buf {
     ghost use Rattle.std.specs.Prelude.{◌≤◌, ◌<◌, vec_len, vec_capacity};
+    ghost use denote.RawPtr.{block_of};
     ghost use Rattle.demi_buf.specs.Bufs.{BufValue, size_of};
 
     ghost Value = { BufValue };
 
-    ghost view = { λ b. record { block = b.place.row; count = b.count; slot = b.slot; class = b.class; bytes = b.room.items } };
+    ghost view = { λ b. record { block = block_of b.place.row; count = b.count; slot = b.slot; class = b.class; bytes = b.room.items } };
 
     ghost invariant = { λ b. (b.slot < b.count) × (vec_len b.room ≤ size_of b.class) × (size_of b.class ≤ vec_capacity b.room) };
 }
@@ -42,13 +43,6 @@ impl Buf {
         ensures { result ≡ self.now.slot }
     {
         self.slot
-    }
-
-    /// Where its superblock lies.
-    pub fn place(&self) -> Place
-        ensures { result.row ≡ self.now.block }
-    {
-        self.place
     }
 
     pub fn class(&self) -> Class

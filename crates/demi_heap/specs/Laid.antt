@@ -2,7 +2,6 @@
 use Rattle.std.specs.Prelude.{◌≡◌, ℕ, ◌+◌, ◌<◌, ◌≤◌, Bool, false, eqb, cond, List, [], length, Option, Some, slice_index_or}
 use mathlib.Core.Option.{some}
 use lib.ListN.{get_elem?}
-use denote.RawPtr.{Ptr}
 use Rattle.std.specs.Slots.Ownership.{Filled}
 use Rattle.demi_buf.specs.Bufs.{BufValue, carved}
 use Rattle.demi_buf.specs.declared.class.Class.{Class}
@@ -21,9 +20,9 @@ places r = r.count
 abbrev pub counts_shape : Counts → Shape
 counts_shape c = record { small = c.small; page = c.page; large = c.large; passes = 0; blocks = [] }
 
--- these are the buffers of a new superblock
-abbrev pub IsNewBlock : List BufValue → Class → Type 0
-IsNewBlock bufs c = (block : Ptr) × (bufs ≡ carved block c (length bufs) (length bufs))
+-- these are the buffers of a new superblock of this place
+abbrev pub IsNewBlock : ℕ → List BufValue → Class → Type 0
+IsNewBlock block bufs c = bufs ≡ carved block c (length bufs) (length bufs)
 
 -- each slot of the row has a buffer, which lies there in its superblock
 pub record EachLies (rs : List Superblock) (row : List (Option BufValue)) : Type 0 where
