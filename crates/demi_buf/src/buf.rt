@@ -6,12 +6,13 @@ ghost use Rattle.demi_buf.specs.contracts.buf.Buf.{the_row};
 use crate::class::Class;
 use std::marker::Model;
 
-/// Where the vector lies that a carve gave. While that vector is there, no other superblock has its place.
+// Where the vector lies that a carve gave. While that vector is there, no other superblock has its place.
 #[derive(Clone, Copy)]
 pub(crate) struct Place {
     pub(crate) row: *const u8,
 }
 
+// Nothing reads or writes through the pointer, so any thread may have it.
 unsafe impl Send for Place {}
 
 unsafe impl Sync for Place {}
@@ -45,6 +46,7 @@ impl Buf {
         self.slot
     }
 
+    /// Which of the three sizes it has.
     pub fn class(&self) -> Class
         ensures { result ≡ self.now.class }
     {
@@ -59,12 +61,14 @@ impl Buf {
         self.room.len() as u32
     }
 
+    /// The bytes that count.
     pub fn bytes(&self) -> &[u8]
         ensures { result.now ≡ self.now.bytes }
     {
         self.room.as_slice()
     }
 
+    /// The bytes that count, to write.
     pub fn bytes_mut(&mut self) -> &mut [u8]
         ensures* writes_back { sem 𝓛 (Lends the_row (Array u8 0) self.entry result (with_bytes self.old)) }
         ensures value { result.now ≡ self.old.bytes }

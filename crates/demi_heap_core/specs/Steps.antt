@@ -30,6 +30,28 @@ pub data OwnerStep (B : Type 0) : Type 0 where
   part_guest : ℕ → OwnerStep B
   join_guest : ℕ → ℕ → OwnerStep B
 
+-- the seat that makes the step
+abbrev pub stepper : {B : Type 0} → OwnerStep B → ℕ
+stepper (claim_won id k) = id
+stepper (claim_lost id k) = id
+stepper (load id k) = id
+stepper (free_sole id k b) = id
+stepper (lend id k b) = id
+stepper (free_lent id k) = id
+stepper (release id k b) = id
+stepper (reclaim id k) = id
+stepper (still_held id k) = id
+stepper (rejoin id k) = id
+stepper (part_pass id) = id
+stepper (part_lent id) = id
+stepper (deal id) = id
+stepper (join_pass id other) = id
+stepper (join_lent id other) = id
+stepper (part_bare id) = id
+stepper (join_bare id other) = id
+stepper (part_guest id) = id
+stepper (join_guest id other) = id
+
 module _ {B : Type 0} where
   -- what a step makes of the stepping seat's view
   abbrev pub view_claimed : View B → ℕ → View B
