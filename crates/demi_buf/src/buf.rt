@@ -6,12 +6,13 @@ ghost use Rattle.demi_buf.specs.contracts.buf.Buf.{the_row};
 use crate::class::Class;
 use std::marker::Model;
 
-/// Where the first row of a superblock lies: no two superblocks that are there at once share it.
+// Where the vector lies that a carve gave. While that vector is there, no other superblock has its place.
 #[derive(Clone, Copy)]
-pub struct Place {
-    pub row: *const u8,
+pub(crate) struct Place {
+    pub(crate) row: *const u8,
 }
 
+// Nothing reads or writes through the pointer, so any thread may have it.
 unsafe impl Send for Place {}
 
 unsafe impl Sync for Place {}
@@ -27,11 +28,12 @@ pub struct Buf {
 
 impl Model for Buf {
     ghost use Rattle.std.specs.Prelude.{◌≤◌, ◌<◌, vec_len, vec_capacity};
+    ghost use denote.RawPtr.{block_of};
     ghost use Rattle.demi_buf.specs.Bufs.{BufValue, size_of};
 
     ghost Value = { BufValue };
 
-    ghost view = { λ b. record { block = b.place.row; count = b.count; slot = b.slot; class = b.class; bytes = b.room.items } };
+    ghost view = { λ b. record { block = block_of b.place.row; count = b.count; slot = b.slot; class = b.class; bytes = b.room.items } };
 
     ghost invariant = { λ b. (b.slot < b.count) × (vec_len b.room ≤ size_of b.class) × (size_of b.class ≤ vec_capacity b.room) };
 }
@@ -44,13 +46,7 @@ impl Buf {
         self.slot
     }
 
-    /// Where its superblock lies.
-    pub fn place(&self) -> Place
-        ensures { result.row ≡ self.now.block }
-    {
-        self.place
-    }
-
+    /// Which of the three sizes it has.
     pub fn class(&self) -> Class
         ensures { result ≡ self.now.class }
     {
@@ -65,12 +61,14 @@ impl Buf {
         self.room.len() as u32
     }
 
+    /// The bytes that count.
     pub fn bytes(&self) -> &[u8]
         ensures { result.now ≡ self.now.bytes }
     {
         self.room.as_slice()
     }
 
+    /// The bytes that count, to write.
     pub fn bytes_mut(&mut self) -> &mut [u8]
         ensures* writes_back { sem 𝓛 (Lends the_row (Array u8 0) self.entry result (with_bytes self.old)) }
         ensures value { result.now ≡ self.old.bytes }

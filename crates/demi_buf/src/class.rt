@@ -1,6 +1,15 @@
 ghost use Rattle.std.specs.Prelude.{◌≡◌};
 ghost use Rattle.demi_buf.specs.Bufs.{size_of};
 
+/// The size of a small buffer, in bytes.
+pub const SMALL_BYTES: u32 = 256;
+
+/// The size of a page, in bytes.
+pub const PAGE_BYTES: u32 = 4096;
+
+/// The size of a large buffer, in bytes. No buffer is larger.
+pub const LARGE_BYTES: u32 = 65536;
+
 /// The three sizes of a buffer.
 #[derive(Clone, Copy, PartialEq, Eq, Debug)]
 pub enum Class {
@@ -15,9 +24,9 @@ impl Class {
         ensures { result ≡ size_of self }
     {
         match self {
-            Class::Small => 256,
-            Class::Page => 4096,
-            Class::Large => 65536,
+            Class::Small => SMALL_BYTES,
+            Class::Page => PAGE_BYTES,
+            Class::Large => LARGE_BYTES,
         }
     }
 }

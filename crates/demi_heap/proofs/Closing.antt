@@ -18,7 +18,7 @@ at_or (y ∷ ys) (suc i) x q = let t = at_or ys i x q in let t₀ = t.0 in (omeg
 
 -- where a word is 0, the buffer of its slot is there
 pub homes : (h : Shape) (id : ℕ) (v : View BufValue) (words : List ℕ) (row : List (Option BufValue)) → Final (Seen (HeapRule h) id v) words row → IsHome words row h.blocks
-homes h id v words row final = let s = final.0 in let rule = one_owner (Fits h) h (shown s) final.1.0 in record {
+homes h id v words row final = let s = final.0 in let rule = one_owner (Fits h) h (shown final.1.0.0 s) final.1.0.1 in record {
   at = λ k free. let got = at_or s.words k 0 (subst (λ (ws : List ℕ). get_elem? ws k ≡ some 0) (sym final.2) free) in let near = got.0 in let zero_word = got.1 in let wide = rule.wide in
       let ok = rule.each_slot k (omega arith) in let shows = ok.shows in let home = ok.at_home (omega arith) in
       (home.0, final.4 k (Some home.0) home.1, home.2.lies);

@@ -5,7 +5,6 @@ use mathlib.Core.Logic.{dite}
 use mathlib.Core.Option.{some, some-injective, some-ne-none}
 use native.Mathlib.Decide.{ℕ_discrete, dec_le}
 use lib.ListN.{get_elem?}
-use denote.RawPtr.{Ptr}
 use Rattle.std.specs.Prelude.{Option, Some, None}
 use Rattle.atomic_table.proofs.Lists.{at_longer, at_last}
 use Rattle.demi_buf.specs.Bufs.{BufValue, carved, fresh, IsSuperblock}
@@ -45,7 +44,7 @@ module _ {A : Type 0} where
       tail (z ∷ zs) = zs
 
 -- the last buffer of a new superblock's first m
-pub carved_last : (b : Ptr) (c : Class) (n m : ℕ) (items items' : List BufValue) (x : BufValue) → items ≡ carved b c n m → 0 < m → items ≡ items' ++ x ∷ [] → (items' ≡ carved b c n (m - 1)) × (x ≡ fresh b c n (m - 1))
+pub carved_last : (b : ℕ) (c : Class) (n m : ℕ) (items items' : List BufValue) (x : BufValue) → items ≡ carved b c n m → 0 < m → items ≡ items' ++ x ∷ [] → (items' ≡ carved b c n (m - 1)) × (x ≡ fresh b c n (m - 1))
 carved_last b c n zero items items' x e h q = absurd (omega arith)
 carved_last b c n (suc m) items items' x e h q = let p = snoc_parts items' (carved b c n m) x (fresh b c n m) (sym q ∙ e) in let k : suc m - 1 ≡ m = omega arith in
     (p.0 ∙ ap (carved b c n) (sym k), p.1 ∙ ap (fresh b c n) (sym k))
@@ -141,7 +140,7 @@ pub front_none : (r : Superblock) → IsFront r []
 front_none r = record { at = λ j b e. absurd (some-ne-none b (sym e)) }
 
 -- the next buffer of a new superblock goes into the row
-pub lay_next : (h : Shape) (c : Class) (rs : List Superblock) (p : Ptr) (n m i : ℕ) (bufs bufs' : List BufValue) (x : BufValue) (row row' : List (Option BufValue))
+pub lay_next : (h : Shape) (c : Class) (rs : List Superblock) (p : ℕ) (n m i : ℕ) (bufs bufs' : List BufValue) (x : BufValue) (row row' : List (Option BufValue))
     → bufs ≡ carved p c n m → 0 < m → m + i ≡ n → bufs ≡ bufs' ++ x ∷ [] → row' ≡ row ++ Some x ∷ [] → length row ≡ total places rs + i
     → EachLies (rs ++ record { place = p; count = n } ∷ []) row → HasClasses h row → first_of h c ≤ length row → length row < end_of h c
     → (bufs' ≡ carved p c n (m - 1)) × EachLies (rs ++ record { place = p; count = n } ∷ []) row' × HasClasses h row' × (x ≡ fresh p c n (m - 1))

@@ -14,9 +14,10 @@ use Rattle.demi_heap.specs.Laid.{IsLaid, HasClasses}
 
 -- a row in which all superblocks lie is the start of a schedule
 pub opens : (h : Shape) (words : List ℕ) (row : List (Option BufValue)) → words ≡ replicate (slots h) 0 → length row ≡ slots h → IsLaid h.blocks row → HasClasses h row → HeapRule h (opening words row (first_view h))
-opens h words row is len laid classes = let new : IsNew (Fits h) h (shown (opening words row (first_view h))) = record {
+opens h words row is len laid classes = let new : IsNew (Fits h) h (shown 0 (opening words row (first_view h))) = record {
+  first = refl;
   free = is;
   deep = length-map row some ∙ len;
   full = λ k near. let b = laid.each.at k (omega arith) in (b.0, at_map some row k (Some b.0) b.1, record { class = classes.of k b.0 b.1; lies = b.2 });
   alone = refl;
-} in (shown (opening words row (first_view h)), new, [], refl)
+} in (0, (shown 0 (opening words row (first_view h)), new, [], refl))

@@ -1,17 +1,19 @@
 -- How the superblocks of a heap lie in its slots.
-use Rattle.std.specs.Prelude.{◌≡◌, ℕ, ◌+◌, ◌<◌, ◌≤◌, Bool, false, eqb, cond, List, [], length, Option, Some, slice_index_or}
+use Rattle.std.specs.Prelude.{◌≡◌, ℕ, ◌+◌, ◌<◌, ◌≤◌, Bool, false, eqb, cond, List, [], length, Option, Some, slice_index_or, sum_by}
 use mathlib.Core.Option.{some}
 use lib.ListN.{get_elem?}
-use denote.RawPtr.{Ptr}
 use Rattle.std.specs.Slots.Ownership.{Filled}
 use Rattle.demi_buf.specs.Bufs.{BufValue, carved}
 use Rattle.demi_buf.specs.declared.class.Class.{Class}
 use Rattle.demi_heap_core.specs.declared.shape.Shape.{Shape}
 use Rattle.demi_heap_core.specs.declared.shape.Superblock.{Superblock}
+use Rattle.demi_heap_core.specs.declared.view.View.{View}
 use Rattle.demi_heap_core.specs.Owner.{total, OwnerState}
+use Rattle.demi_heap_core.specs.Steps.{Stands}
 use Rattle.demi_heap_core.specs.Schedule.{Reached}
 use Rattle.demi_heap.specs.declared.counts.Counts.{Counts}
 use Rattle.demi_heap.specs.Rule.{class_at, lies_in, Fits, IsAt}
+use Rattle.demi_heap.specs.Seen.{PassValue, claims, ends, loans, returns}
 
 -- how many slots a superblock takes up
 abbrev pub places : Superblock → ℕ
@@ -21,9 +23,9 @@ places r = r.count
 abbrev pub counts_shape : Counts → Shape
 counts_shape c = record { small = c.small; page = c.page; large = c.large; passes = 0; blocks = [] }
 
--- these are the buffers of a new superblock
-abbrev pub IsNewBlock : List BufValue → Class → Type 0
-IsNewBlock bufs c = (block : Ptr) × (bufs ≡ carved block c (length bufs) (length bufs))
+-- these are the buffers of a new superblock of this place
+abbrev pub IsNewBlock : ℕ → List BufValue → Class → Type 0
+IsNewBlock block bufs c = bufs ≡ carved block c (length bufs) (length bufs)
 
 -- each slot of the row has a buffer, which lies there in its superblock
 pub record EachLies (rs : List Superblock) (row : List (Option BufValue)) : Type 0 where
@@ -59,8 +61,15 @@ pub record IsWholeFrom (first : ℕ) (row : List (Option BufValue)) (r : Superbl
 abbrev pub is : ℕ → ℕ → ℕ
 is n word = cond (eqb word n) 1 0
 
--- the counts are those of a state that the heap reached: of words that are 0, 1, 3 and 2
-pub record CountsWords (h : Shape) (free app lent dev : ℕ) : Type 0 where
+-- The counts are those of a state that the heap reached: of words that are 0, 1, 3 and 2. In it one seat had all passes, with all that these counted, so
+-- no step of another seat changes a word after it
+pub record CountsWords (h : Shape) (passes : List PassValue) (free app lent dev : ℕ) : Type 0 where
   pub last : OwnerState BufValue
   pub reached : Reached (Fits h) h last
+  pub id : ℕ
+  pub seat : View BufValue
+  pub stood : Stands last id seat
+  pub gathered : seat.passes ≡ h.passes
+  pub claimed : (seat.claimed ≡ sum_by claims passes) × (seat.ended ≡ sum_by ends passes)
+  pub loaned : (seat.loaned ≡ sum_by loans passes) × (seat.returned ≡ sum_by returns passes)
   pub counts : (free ≡ total (is 0) last.words) × (app ≡ total (is 1) last.words) × (lent ≡ total (is 3) last.words) × (dev ≡ total (is 2) last.words)

@@ -23,7 +23,7 @@ impl Model for AppBuf {
 
     ghost Value = { HalfValue };
 
-    ghost view = { λ a. record { heap = id_of a.seat.table_id a.seat.me.0; slot = a.slot; class = a.buf.class; bytes = a.buf.bytes; held = a.seat.me.0.held } };
+    ghost view = { λ a. record { heap = id_of a.seat.table_id a.seat.me.0; slot = a.slot; class = a.buf.class; bytes = a.buf.bytes; clock = a.seat.me.0.half_clock; held = a.seat.me.0.held } };
 
     ghost invariant = { λ a. (a.seat.me.1 ≡ (a.slot, None) ∷ []) × (a.seat.me.0.halves ≡ Sole) × (a.seat.me.0.slot ≡ a.slot) × Quiet a.seat.me.0 × Fits a.seat.me.0.shape a.slot a.buf × (a.slot < a.seat.table_id.words) };
 }
@@ -36,6 +36,7 @@ impl AppBuf {
         self.slot
     }
 
+    /// Its size's class.
     pub fn class(&self) -> Class
         ensures { result ≡ self.now.class }
     {
@@ -50,12 +51,14 @@ impl AppBuf {
         self.buf.len()
     }
 
+    /// Its bytes.
     pub fn bytes(&self) -> &[u8]
         ensures { result.now ≡ self.now.bytes }
     {
         self.buf.bytes()
     }
 
+    /// Its bytes, to write.
     pub fn bytes_mut(&mut self) -> &mut [u8]
         ensures* writes_back { sem 𝓛 (Lends the_row (Array u8 0) self.entry result (half_written self.old)) }
         ensures value { result.now ≡ self.old.bytes }

@@ -1,18 +1,17 @@
 //! The superblocks of a heap: carved into a row of slots, and taken back from it.
 ghost use Rattle.std.specs.Prelude.{◌≡◌, ℕ, ◌+◌, ◌<◌, ◌≤◌, [], ◌∷◌, ◌++◌, length, vec_len, vec_capacity, OnOk};
+ghost use Rattle.std.specs.Vec.{vec_ptr};
+ghost use denote.RawPtr.{block_of};
 ghost use Rattle.demi_heap.specs.Rule.{first_of, end_of};
 ghost use Rattle.demi_heap.specs.Laid.{HasClasses, IsLaid, IsNewBlock, counts_shape};
 
 use crate::counts::Counts;
 use crate::key::Carve;
-use demi_buf::{Block, Buf, Class};
+use demi_buf::{BLOCK_LIMIT, Block, Buf, Class};
 use demi_core::NoMemory;
 use std::alloc::Global;
 
-/// The most buffers of one superblock.
-const BLOCK_LIMIT: u32 = 64;
-
-/// Moves the buffers of a new superblock into the row, and keeps their emptied vector.
+// Moves the buffers of a new superblock into the row, and keeps their emptied vector.
 fn lay_down(
     carves: &mut Vec<Carve>,
     row: &mut Vec<Option<Buf>>,
@@ -21,7 +20,7 @@ fn lay_down(
     mut bufs: Vec<Buf>,
 )
     requires room { (vec_len row.old + vec_len bufs ≤ vec_capacity row.old) × (vec_len carves.old < vec_capacity carves.old) }
-    requires new { IsNewBlock bufs.items class × (vec_len bufs ≤ vec_capacity bufs) × (1 ≤ vec_len bufs) × (vec_len bufs ≤ 64) }
+    requires new { IsNewBlock (block_of (vec_ptr bufs)) bufs.items class × (vec_len bufs ≤ vec_capacity bufs) × (1 ≤ vec_len bufs) × (vec_len bufs ≤ BLOCK_LIMIT) }
     requires slots { (first_of (counts_shape counts.now) class ≤ length row.old.items) × (length row.old.items + vec_len bufs ≤ end_of (counts_shape counts.now) class) }
     requires laid { IsLaid carves.old.items row.old.items × HasClasses (counts_shape counts.now) row.old.items }
     ensures laid { IsLaid carves.new.items row.new.items × HasClasses (counts_shape counts.now) row.new.items }
@@ -29,17 +28,14 @@ fn lay_down(
 {
     let _ = counts;
     let count = bufs.len() as u32;
-    let last = bufs.take_last();
-    let place = last.place();
-    row.push_reserved(Some(last));
-    for _ in 1..count {
+    for _ in 0..count {
         let buf = bufs.take_last();
         row.push_reserved(Some(buf));
     }
-    carves.push_reserved(Carve { place, count, bufs });
+    carves.push_reserved(Carve { count, bufs });
 }
 
-/// One superblock more, for slots of the class.
+// One superblock more, for slots of the class.
 fn carve_one(
     alloc: Global,
     carves: &mut Vec<Carve>,
@@ -48,7 +44,7 @@ fn carve_one(
     class: Class,
     count: u32,
 ) -> Result<(), NoMemory>
-    requires count { (1 ≤ count) × (count ≤ 64) }
+    requires count { (1 ≤ count) × (count ≤ BLOCK_LIMIT) }
     requires slots { (first_of (counts_shape counts.now) class ≤ length row.old.items) × (length row.old.items + count ≤ end_of (counts_shape counts.now) class) }
     requires laid { IsLaid carves.old.items row.old.items × HasClasses (counts_shape counts.now) row.old.items }
     ensures laid { IsLaid carves.new.items row.new.items × HasClasses (counts_shape counts.now) row.new.items }
@@ -69,7 +65,7 @@ fn carve_one(
     }
 }
 
-/// Superblocks for all slots of the class, up to `end`.
+// Superblocks for all slots of the class, up to `end`.
 fn carve_class(
     alloc: Global,
     carves: &mut Vec<Carve>,
@@ -95,7 +91,7 @@ fn carve_class(
     Ok(())
 }
 
-/// Superblocks for all slots of a heap.
+// Superblocks for all slots of a heap.
 pub(crate) fn carve_all(
     alloc: Global,
     carves: &mut Vec<Carve>,
@@ -114,17 +110,13 @@ pub(crate) fn carve_all(
     carve_class(alloc, carves, row, counts, Class::Large, large)
 }
 
-/// Joins the last superblock of a row again.
+// Joins the last superblock of a row again.
 fn take_back(carves: &Vec<Carve>, row: &mut Vec<Option<Buf>>, carve: Carve)
     requires { IsLaid (carves.now.items ++ carve ∷ []) row.old.items }
     ensures { IsLaid carves.now.items row.new.items }
 {
     let _ = carves;
-    let Carve {
-        place: _,
-        count,
-        mut bufs,
-    } = carve;
+    let Carve { count, mut bufs } = carve;
     for _ in 0..count {
         match row.take_last() {
             Some(buf) => bufs.push_reserved(buf),
@@ -134,7 +126,7 @@ fn take_back(carves: &Vec<Carve>, row: &mut Vec<Option<Buf>>, carve: Carve)
     Block::join(bufs);
 }
 
-/// Joins all superblocks of a row again.
+// Joins all superblocks of a row again.
 pub(crate) fn dismantle(mut carves: Vec<Carve>, mut row: Vec<Option<Buf>>)
     requires { IsLaid carves.items row.items }
 {

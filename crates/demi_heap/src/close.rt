@@ -28,7 +28,7 @@ pub struct HeapEnd {
 
 type Ended = Closed<Option<Buf>, Global>;
 
-/// The passes, joined into one.
+// The passes, joined into one.
 fn gather(words: &Slots, mut passes: Vec<HeapPass>) -> HeapSeat
     requires some { 0 < length passes.items }
     requires table { (0 < words.now.table_id.words) × All (λ p. p.heap.table ≡ words.now.table_id) passes.items }
@@ -46,7 +46,7 @@ fn gather(words: &Slots, mut passes: Vec<HeapPass>) -> HeapSeat
     seat
 }
 
-/// The count with one more word.
+// The count with one more word.
 fn tally(end: HeapEnd, word: u64) -> HeapEnd
     requires { (word ≤ 3) × (end.free + end.app + end.lent + end.dev < 65536) }
     ensures one { (result.free ≡ end.free + is 0 word) × (result.app ≡ end.app + is 1 word) × (result.lent ≡ end.lent + is 3 word) × (result.dev ≡ end.dev + is 2 word) }
@@ -82,7 +82,7 @@ fn count(closed: &Ended, slots: u32) -> HeapEnd
     end
 }
 
-/// Whether no slot from `first` on, below `end`, has an owner.
+// Whether no slot from `first` on, below `end`, has an owner.
 fn all_free(closed: &Ended, first: u32, end: u32) -> bool
     requires { IsFull closed.now.words × (end ≤ slots_len closed.now.words) × (first ≤ end) }
     ensures { IsTrue result → (k : ℕ) → first ≤ k → k < end → get_elem? (slots_items closed.now.words) k ≡ some 0 }
@@ -95,7 +95,7 @@ fn all_free(closed: &Ended, first: u32, end: u32) -> bool
     true
 }
 
-/// Takes the value of the last slot that has one, `slot`.
+// Takes the value of the last slot that has one, `slot`.
 fn take_at(closed: &mut Ended, slot: u32) -> Option<Buf>
     requires { (slot < slots_len closed.old.slots) × IsTakenFrom (slots_filled closed.old.slots) (slots_len closed.old.slots) (slot + 1) }
     ensures value { get_elem? (slots_items closed.old.slots) slot ≡ some result }
@@ -105,18 +105,14 @@ fn take_at(closed: &mut Ended, slot: u32) -> Option<Buf>
     closed.take(slot as usize)
 }
 
-/// Joins the superblock whose slots end at `end`: its buffers are at home.
+// Joins the superblock whose slots end at `end`: its buffers are at home.
 fn join_block(closed: &mut Ended, end: u32, carve: Carve)
     requires range { (carve.count ≤ end) × (end ≤ slots_len closed.old.slots) × IsTakenFrom (slots_filled closed.old.slots) (slots_len closed.old.slots) end }
     requires home { IsWholeFrom (end - carve.count) (slots_items closed.old.slots) carve }
     ensures taken { IsTakenFrom (slots_filled closed.new.slots) (slots_len closed.new.slots) (end - carve.count) }
     ensures same { (slots_items closed.new.slots ≡ slots_items closed.old.slots) × (slots_len closed.new.slots ≡ slots_len closed.old.slots) × (closed.new.words ≡ closed.old.words) }
 {
-    let Carve {
-        place: _,
-        count,
-        mut bufs,
-    } = carve;
+    let Carve { count, mut bufs } = carve;
     for taken in 0..count {
         match take_at(closed, end - taken - 1) {
             Some(buf) => bufs.push_reserved(buf),
@@ -126,17 +122,13 @@ fn join_block(closed: &mut Ended, end: u32, carve: Carve)
     Block::join(bufs);
 }
 
-/// Gives up the superblock whose slots end at `end`: a slot of it is out.
+// Gives up the superblock whose slots end at `end`: a slot of it is out.
 fn give_up(closed: &mut Ended, end: u32, carve: Carve)
     requires range { (carve.count ≤ end) × (end ≤ slots_len closed.old.slots) × IsTakenFrom (slots_filled closed.old.slots) (slots_len closed.old.slots) end }
     ensures taken { IsTakenFrom (slots_filled closed.new.slots) (slots_len closed.new.slots) (end - carve.count) }
     ensures same { (slots_items closed.new.slots ≡ slots_items closed.old.slots) × (slots_len closed.new.slots ≡ slots_len closed.old.slots) × (closed.new.words ≡ closed.old.words) }
 {
-    let Carve {
-        place: _,
-        count,
-        bufs,
-    } = carve;
+    let Carve { count, bufs } = carve;
     for taken in 0..count {
         if let Some(buf) = take_at(closed, end - taken - 1) {
             buf.lose();
@@ -145,7 +137,7 @@ fn give_up(closed: &mut Ended, end: u32, carve: Carve)
     bufs.destroy_empty();
 }
 
-/// Joins each superblock of which no slot is out, and gives up the others.
+// Joins each superblock of which no slot is out, and gives up the others.
 fn settle(mut closed: Ended, mut carves: Vec<Carve>, slots: u32)
     requires full { IsFull closed.words × IsFull closed.slots × (slots_len closed.words ≡ slots) × (slots_len closed.slots ≡ slots) }
     requires home { IsHome (slots_items closed.words) (slots_items closed.slots) carves.items }
@@ -166,12 +158,14 @@ fn settle(mut closed: Ended, mut carves: Vec<Carve>, slots: u32)
 }
 
 impl Heap {
-    /// Takes all passes of the heap, each once. What they claimed and did not end is what an application still owns, and
-    /// what they lent and did not get back is what a device still has. The memory of a superblock with a slot out stays
-    /// taken.
+    /// Takes all passes of the heap, each once, and counts the slots in the state in which they are together: no other
+    /// thread can change an owner after it. What they claimed and did not end is what an application still owns, and what
+    /// they lent and did not get back is what a device still has.
+    ///
+    /// Not promised: which memory is given back. The buffers of a superblock with a slot out are given up.
     pub fn close(self, passes: Vec<HeapPass>) -> HeapEnd
         requires { (length passes.items ≡ self.shape.passes) × All (λ p. p.heap ≡ self) passes.items }
-        ensures words { CountsWords self.shape result.free result.app result.lent result.dev }
+        ensures words { CountsWords self.shape passes.items result.free result.app result.lent result.dev }
         ensures claims { sum_by claims passes.items ≡ sum_by ends passes.items + (result.app + result.lent) }
         ensures loans { sum_by loans passes.items ≡ sum_by returns passes.items + (result.lent + result.dev) }
         ensures all { result.free + result.app + result.lent + result.dev ≡ slots self.shape }

@@ -21,7 +21,7 @@ impl Model for DevBuf {
 
     ghost Value = { HalfValue };
 
-    ghost view = { λ d. record { heap = id_of d.seat.table_id d.seat.me.0; slot = d.slot; class = d.buf.class; bytes = d.buf.bytes; held = d.seat.me.0.held } };
+    ghost view = { λ d. record { heap = id_of d.seat.table_id d.seat.me.0; slot = d.slot; class = d.buf.class; bytes = d.buf.bytes; clock = d.seat.me.0.half_clock; held = d.seat.me.0.held } };
 
     ghost invariant = { λ d. (d.seat.me.1 ≡ (d.slot, None) ∷ []) × (d.seat.me.0.halves ≡ Device) × (d.seat.me.0.slot ≡ d.slot) × Quiet d.seat.me.0 × (d.seat.me.0.lent ≡ Some d.buf) × Fits d.seat.me.0.shape d.slot d.buf × (d.slot < d.seat.table_id.words) };
 }
@@ -42,6 +42,7 @@ impl DevBuf {
         self.buf.len()
     }
 
+    /// The bytes that were lent.
     pub fn bytes(&self) -> &[u8]
         ensures { result.now ≡ self.now.bytes }
     {

@@ -1,22 +1,23 @@
 //! What is fixed about a heap, and the vectors that its superblocks came in.
 use crate::counts::Counts;
-use demi_buf::{Buf, Place};
+use demi_buf::Buf;
 use std::marker::Model;
 
-/// The emptied vector of one carve, kept for the buffers to be joined in.
+/// The emptied vector of one carve, kept for the buffers to be joined in. While it is there, no other superblock has its place.
 pub struct Carve {
-    pub(crate) place: Place,
     pub(crate) count: u32,
     pub(crate) bufs: Vec<Buf>,
 }
 
 impl Model for Carve {
     ghost use Rattle.std.specs.Prelude.{◌≡◌, ◌≤◌, [], vec_capacity, vec_len};
+    ghost use Rattle.std.specs.Vec.{vec_ptr};
+    ghost use denote.RawPtr.{block_of};
     ghost use Rattle.demi_heap_core.specs.declared.shape.Superblock.{Superblock};
 
     ghost Value = { Superblock };
 
-    ghost view = { λ c. record { place = c.place.row; count = c.count } };
+    ghost view = { λ c. record { place = block_of (vec_ptr c.bufs); count = c.count } };
 
     ghost invariant = { λ c. (c.bufs.items ≡ []) × (vec_len c.bufs ≡ 0) × (c.count ≤ vec_capacity c.bufs) × (1 ≤ c.count) × (c.count ≤ 64) };
 }

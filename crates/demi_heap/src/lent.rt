@@ -18,7 +18,7 @@ impl Model for Lent {
 
     ghost Value = { HalfValue };
 
-    ghost view = { λ h. record { heap = id_of h.seat.table_id h.seat.me.0; slot = h.slot; class = lent_class h.seat.me.0.lent; bytes = lent_bytes h.seat.me.0.lent; held = h.seat.me.0.held } };
+    ghost view = { λ h. record { heap = id_of h.seat.table_id h.seat.me.0; slot = h.slot; class = lent_class h.seat.me.0.lent; bytes = lent_bytes h.seat.me.0.lent; clock = h.seat.me.0.half_clock; held = h.seat.me.0.held } };
 
     ghost invariant = { λ h. (h.seat.me.1 ≡ []) × (h.seat.me.0.halves ≡ Lent) × (h.seat.me.0.slot ≡ h.slot) × Quiet h.seat.me.0 × LentFits h.seat.me.0.shape h.slot h.seat.me.0.lent × (h.len ≡ length (lent_bytes h.seat.me.0.lent)) × (h.slot < h.seat.table_id.words) };
 }

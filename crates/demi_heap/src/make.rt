@@ -17,7 +17,7 @@ use demi_buf::Buf;
 use demi_core::NoMemory;
 use std::alloc::Global;
 
-/// Gives the superblocks back: there was no memory.
+// Gives the superblocks back: there was no memory.
 fn undo(key: Key, row: Vec<Option<Buf>>) -> NoMemory
     requires { IsLaid key.blocks row.items }
 {
@@ -30,7 +30,7 @@ fn undo(key: Key, row: Vec<Option<Buf>>) -> NoMemory
     NoMemory
 }
 
-/// The table over a row of slots, with the seat that has all passes.
+// The table over a row of slots, with the seat that has all passes.
 fn lay(alloc: Global, key: Key, row: Vec<Option<Buf>>) -> Result<(Heap, HeapSeat), NoMemory>
     requires laid { IsLaid key.blocks row.items × HasClasses key row.items }
     requires size { (length row.items ≡ slots key) × (0 < slots key) × (slots key < 65536) × (1 ≤ key.passes) }
@@ -46,7 +46,7 @@ fn lay(alloc: Global, key: Key, row: Vec<Option<Buf>>) -> Result<(Heap, HeapSeat
     }
 }
 
-/// The superblocks and the table.
+// The superblocks and the table.
 fn build(alloc: Global, counts: Counts, passes: u32) -> Result<(Heap, HeapSeat), NoMemory>
     requires counts { (counts.small ≤ 4096) × (counts.page ≤ 4096) × (counts.large ≤ 4096) × (1 ≤ counts.small + counts.page + counts.large) }
     requires passes { 1 ≤ passes }
@@ -71,7 +71,7 @@ fn build(alloc: Global, counts: Counts, passes: u32) -> Result<(Heap, HeapSeat),
     }
 }
 
-/// Deals the passes out, one by one.
+// Deals the passes out, one by one.
 fn deal(words: &Slots, mut seat: HeapSeat, count: u32, passes: &mut Vec<HeapPass>)
     requires table { (seat.table_id ≡ words.now.table_id) × (0 < words.now.table_id.words) × (1 ≤ count) }
     requires seat { (seat.me ≡ (first_view words.now.key, [])) × (words.now.key.passes ≡ count) }

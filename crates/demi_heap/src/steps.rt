@@ -5,7 +5,7 @@ ghost use Rattle.demi_heap_core.specs.Owner.{slots, soles, lents, devices};
 ghost use Rattle.demi_heap_core.specs.Steps.{view_claimed, view_missed, view_freed, view_lent, view_released, view_reclaimed, view_held, view_rejoined, device_alone, lent_alone, one_less, one_pass, with_lent, half_alone, pass_alone, with_pass};
 ghost use Rattle.demi_heap.specs.Rule.{Fits};
 ghost use Rattle.demi_heap.specs.Told.{WasFree};
-ghost use Rattle.demi_heap.specs.Seen.{missed_from, with_missed};
+ghost use Rattle.demi_heap.specs.Seen.{Looked, looking_as};
 
 use crate::plays::{
     Claims, Deals, FreesLent, FreesSole, Lends, Reclaims, Rejoins, Releases, WithLent, WithPass,
@@ -13,12 +13,12 @@ use crate::plays::{
 use crate::table::{APP, DEV, HeapSeat, Slots};
 use demi_buf::Buf;
 
-/// Tries to claim the slot for a pass. Where that is won, the seat holds the slot, and the buffer is out.
+// Tries to claim the slot for a pass. Where that is won, the seat holds the slot, and the buffer is out.
 pub(crate) fn win(words: &Slots, seat: &mut HeapSeat, slot: usize) -> Option<Buf>
     requires table { (seat.old.table_id ≡ words.now.table_id) × (words.now.table_id.words ≡ slots words.now.key) × (slot < words.now.table_id.words) }
     requires pass { (seat.old.me.1 ≡ []) × (seat.old.me.0.halves ≡ Neither) × (1 ≤ seat.old.me.0.passes) }
     ensures table { (seat.new.table_id ≡ seat.old.table_id) × (seat.new.id ≡ seat.old.id) }
-    ensures won { MatchOption result ((seat.new.me.0 ≡ view_missed seat.old.me.0 slot) × (seat.new.me.1 ≡ [])) (λ b. (seat.new.me.0 ≡ view_claimed seat.old.me.0 slot) × (seat.new.me.1 ≡ (slot, None) ∷ []) × Fits seat.old.me.0.shape slot b × WasFree seat.old.me.0 slot) }
+    ensures won { MatchOption result ((t : ℕ) × (seat.old.me.0.clock ≤ t) × (seat.new.me.0 ≡ view_missed seat.old.me.0 t slot) × (seat.new.me.1 ≡ [])) (λ b. (seat.new.me.0 ≡ view_claimed seat.old.me.0 slot) × (seat.new.me.1 ≡ (slot, None) ∷ []) × Fits seat.old.me.0.shape slot b × WasFree seat.old.me.0 slot) }
 {
     if words.compare_exchange::<Claims>(seat, slot, 0, APP) != 0 {
         return None;
@@ -26,7 +26,7 @@ pub(crate) fn win(words: &Slots, seat: &mut HeapSeat, slot: usize) -> Option<Buf
     words.exchange(seat, slot, None)
 }
 
-/// Tries the slots from `first` on, below `end`.
+// Tries the slots from `first` on, below `end`.
 pub(crate) fn win_one(
     words: &Slots,
     seat: &mut HeapSeat,
@@ -36,7 +36,9 @@ pub(crate) fn win_one(
     requires table { (seat.old.table_id ≡ words.now.table_id) × (words.now.table_id.words ≡ slots words.now.key) × (end ≤ words.now.table_id.words) × (first ≤ end) }
     requires pass { (seat.old.me.1 ≡ []) × (seat.old.me.0.halves ≡ Neither) × (1 ≤ seat.old.me.0.passes) }
     ensures table { (seat.new.table_id ≡ seat.old.table_id) × (seat.new.id ≡ seat.old.id) }
-    ensures won { MatchOption result (seat.new.me ≡ (with_missed seat.old.me.0 (missed_from first (end - first) seat.old.me.0.missed), [])) (λ r. (first ≤ r.0) × (r.0 < end) × (seat.new.me ≡ (view_claimed (with_missed seat.old.me.0 (missed_from first (r.0 - first) seat.old.me.0.missed)) r.0, (r.0, None) ∷ [])) × Fits seat.old.me.0.shape r.0 r.1 × WasFree (with_missed seat.old.me.0 (missed_from first (r.0 - first) seat.old.me.0.missed)) r.0) }
+    ensures clock { seat.old.me.0.clock ≤ seat.new.me.0.clock }
+    ensures looks { MatchOption result (Looked seat.old.me.0.clock first end seat.new.me.0.missed) (λ r. Looked seat.old.me.0.clock first r.0 seat.new.me.0.missed) }
+    ensures won { MatchOption result (seat.new.me ≡ (looking_as seat.old.me.0 seat.new.me.0, [])) (λ r. (first ≤ r.0) × (r.0 < end) × (seat.new.me ≡ (view_claimed (looking_as seat.old.me.0 seat.new.me.0) r.0, (r.0, None) ∷ [])) × Fits seat.old.me.0.shape r.0 r.1 × WasFree (looking_as seat.old.me.0 seat.new.me.0) r.0) }
 {
     for slot in first..end {
         if let Some(buf) = win(words, seat, slot as usize) {
@@ -46,7 +48,7 @@ pub(crate) fn win_one(
     None
 }
 
-/// Puts the buffer of a sole half home and frees the slot, once the half's seat has taken in the pass.
+// Puts the buffer of a sole half home and frees the slot, once the half's seat has taken in the pass.
 pub(crate) fn put_home(words: &Slots, seat: &mut HeapSeat, slot: usize, buf: Buf)
     requires table { (seat.old.table_id ≡ words.now.table_id) × (words.now.table_id.words ≡ slots words.now.key) × (slot < words.now.table_id.words) }
     requires half { (seat.old.me.1 ≡ (slot, None) ∷ []) × (seat.old.me.0.halves ≡ Sole) × (seat.old.me.0.slot ≡ slot) × (1 ≤ seat.old.me.0.passes) }
@@ -61,7 +63,7 @@ pub(crate) fn put_home(words: &Slots, seat: &mut HeapSeat, slot: usize, buf: Buf
     words.fetch_and::<FreesSole>(seat, slot, !APP);
 }
 
-/// Lends the buffer of a sole half. The seat then has both halves.
+// Lends the buffer of a sole half. The seat then has both halves.
 pub(crate) fn lend_out(words: &Slots, seat: &mut HeapSeat, slot: usize, buf: Buf) -> Buf
     requires table { (seat.old.table_id ≡ words.now.table_id) × (slot < words.now.table_id.words) }
     requires half { (seat.old.me.1 ≡ (slot, None) ∷ []) × (seat.old.me.0.halves ≡ Sole) × (seat.old.me.0.slot ≡ slot) × (1 ≤ seat.old.me.0.passes) }
@@ -77,7 +79,7 @@ pub(crate) fn lend_out(words: &Slots, seat: &mut HeapSeat, slot: usize, buf: Buf
     words.exchange(seat, slot, None).unwrap()
 }
 
-/// Frees a lent half.
+// Frees a lent half.
 pub(crate) fn let_go(words: &Slots, seat: &mut HeapSeat, slot: usize)
     requires table { (seat.old.table_id ≡ words.now.table_id) × (slot < words.now.table_id.words) }
     requires half { (seat.old.me.0.halves ≡ Lent) × (seat.old.me.0.slot ≡ slot) × (1 ≤ seat.old.me.0.passes) }
@@ -87,7 +89,7 @@ pub(crate) fn let_go(words: &Slots, seat: &mut HeapSeat, slot: usize)
     words.fetch_and::<FreesLent>(seat, slot, !APP);
 }
 
-/// Puts the buffer of a device half home, and ends the half.
+// Puts the buffer of a device half home, and ends the half.
 pub(crate) fn put_back(words: &Slots, seat: &mut HeapSeat, slot: usize, buf: Buf)
     requires table { (seat.old.table_id ≡ words.now.table_id) × (slot < words.now.table_id.words) }
     requires half { (seat.old.me.1 ≡ (slot, None) ∷ []) × (seat.old.me.0.halves ≡ Device) × (seat.old.me.0.slot ≡ slot) × (1 ≤ seat.old.me.0.passes) }
@@ -102,12 +104,12 @@ pub(crate) fn put_back(words: &Slots, seat: &mut HeapSeat, slot: usize, buf: Buf
     words.fetch_and::<Releases>(seat, slot, !DEV);
 }
 
-/// Looks whether the device half has ended, and then makes the lent half sole.
+// Looks whether the device half has ended, and then makes the lent half sole.
 pub(crate) fn look(words: &Slots, seat: &mut HeapSeat, slot: usize) -> Option<Buf>
     requires table { (seat.old.table_id ≡ words.now.table_id) × (slot < words.now.table_id.words) }
     requires half { (seat.old.me.1 ≡ []) × (seat.old.me.0.halves ≡ Lent) × (seat.old.me.0.slot ≡ slot) }
     ensures table { (seat.new.table_id ≡ seat.old.table_id) × (seat.new.id ≡ seat.old.id) }
-    ensures sole { MatchOption result ((seat.new.me.0 ≡ view_held seat.old.me.0 slot) × (seat.new.me.1 ≡ [])) (λ b. (seat.new.me.0 ≡ view_reclaimed seat.old.me.0) × (seat.new.me.1 ≡ (slot, None) ∷ []) × (seat.old.me.0.lent ≡ Some b)) }
+    ensures sole { MatchOption result ((t : ℕ) × (seat.old.me.0.half_clock ≤ t) × (seat.new.me.0 ≡ view_held seat.old.me.0 t slot) × (seat.new.me.1 ≡ [])) (λ b. (seat.new.me.0 ≡ view_reclaimed seat.old.me.0) × (seat.new.me.1 ≡ (slot, None) ∷ []) × (seat.old.me.0.lent ≡ Some b)) }
 {
     if words.load::<Reclaims>(seat, slot) >= DEV {
         return None;
@@ -115,7 +117,7 @@ pub(crate) fn look(words: &Slots, seat: &mut HeapSeat, slot: usize) -> Option<Bu
     words.exchange(seat, slot, None)
 }
 
-/// Ends the device half, once its seat has taken in the lent half and the pass.
+// Ends the device half, once its seat has taken in the lent half and the pass.
 pub(crate) fn take_over(words: &Slots, seat: &mut HeapSeat, slot: usize)
     requires table { (seat.old.table_id ≡ words.now.table_id) × (slot < words.now.table_id.words) }
     requires half { (seat.old.me.0.halves ≡ Both) × (seat.old.me.0.slot ≡ slot) × (1 ≤ seat.old.me.0.passes) }
@@ -125,7 +127,7 @@ pub(crate) fn take_over(words: &Slots, seat: &mut HeapSeat, slot: usize)
     words.fetch_and::<Rejoins>(seat, slot, !DEV);
 }
 
-/// The pass goes off to a seat of its own.
+// The pass goes off to a seat of its own.
 pub(crate) fn part_pass(words: &Slots, seat: &mut HeapSeat) -> HeapSeat
     requires { (seat.old.table_id ≡ words.now.table_id) × (0 < words.now.table_id.words) }
     ensures table { (seat.new.table_id ≡ seat.old.table_id) × (seat.new.id ≡ seat.old.id) × (result.table_id ≡ seat.old.table_id) }
@@ -135,18 +137,18 @@ pub(crate) fn part_pass(words: &Slots, seat: &mut HeapSeat) -> HeapSeat
     words.split_seat::<WithPass>(seat)
 }
 
-/// The half takes in a pass.
+// The half takes in a pass.
 pub(crate) fn take_pass(words: &Slots, seat: &mut HeapSeat, pass: HeapSeat)
     requires table { (seat.old.table_id ≡ words.now.table_id) × (pass.table_id ≡ words.now.table_id) × (0 < words.now.table_id.words) }
     requires half { 1 ≤ seat.old.me.0.passes + (soles seat.old.me.0.halves + lents seat.old.me.0.halves + devices seat.old.me.0.halves) }
-    requires pass { (pass.me.1 ≡ []) × (pass.me.0.halves ≡ Neither) }
+    requires pass { (pass.me.1 ≡ []) × (pass.me.0.halves ≡ Neither) × (pass.me.0.guest.halves ≡ Neither) }
     ensures table { (seat.new.table_id ≡ seat.old.table_id) × (seat.new.id ≡ seat.old.id) }
     ensures both { seat.new.me ≡ (with_pass seat.old.me.0 pass.me.0, seat.old.me.1) }
 {
     words.join_seat::<WithPass>(seat, pass);
 }
 
-/// The lent half goes off to a seat of its own.
+// The lent half goes off to a seat of its own.
 pub(crate) fn part_lent(words: &Slots, seat: &mut HeapSeat) -> HeapSeat
     requires { (seat.old.table_id ≡ words.now.table_id) × (0 < words.now.table_id.words) × (seat.old.me.0.halves ≡ Both) }
     ensures table { (seat.new.table_id ≡ seat.old.table_id) × (seat.new.id ≡ seat.old.id) × (result.table_id ≡ seat.old.table_id) }
@@ -156,18 +158,18 @@ pub(crate) fn part_lent(words: &Slots, seat: &mut HeapSeat) -> HeapSeat
     words.split_seat::<WithLent>(seat)
 }
 
-/// The seat of a device half takes in the lent half of its slot.
+// The seat of a device half takes in the lent half of its slot.
 pub(crate) fn take_lent(words: &Slots, seat: &mut HeapSeat, lent: HeapSeat)
     requires table { (seat.old.table_id ≡ words.now.table_id) × (lent.table_id ≡ words.now.table_id) × (0 < words.now.table_id.words) }
     requires device { seat.old.me.0.halves ≡ Device }
-    requires lent { (lent.me.1 ≡ []) × (lent.me.0.halves ≡ Lent) × (lent.me.0.slot ≡ seat.old.me.0.slot) × (lent.me.0.passes ≡ 0) }
+    requires lent { (lent.me.1 ≡ []) × (lent.me.0.halves ≡ Lent) × (lent.me.0.slot ≡ seat.old.me.0.slot) × (lent.me.0.passes ≡ 0) × (lent.me.0.guest.halves ≡ Neither) }
     ensures table { (seat.new.table_id ≡ seat.old.table_id) × (seat.new.id ≡ seat.old.id) }
     ensures both { seat.new.me ≡ (with_lent seat.old.me.0, seat.old.me.1) }
 {
     words.join_seat::<WithLent>(seat, lent);
 }
 
-/// One pass of several goes off to a seat of its own.
+// One pass of several goes off to a seat of its own.
 pub(crate) fn deal_one(words: &Slots, seat: &mut HeapSeat) -> HeapSeat
     requires { (seat.old.table_id ≡ words.now.table_id) × (0 < words.now.table_id.words) × (seat.old.me.0.halves ≡ Neither) × (2 ≤ seat.old.me.0.passes) }
     ensures table { (seat.new.table_id ≡ seat.old.table_id) × (result.table_id ≡ seat.old.table_id) }

@@ -17,14 +17,17 @@ impl TableRule<Option<Buf>, View<Buf>, Key> for OneOwner {
     ghost first = { first_view };
 }
 
+/// The words and slots, as all threads see them.
 pub type Slots = Shared<Option<Buf>, View<Buf>, Key, OneOwner>;
 
+/// The whole table, with its memory.
 pub type HeapTable = Table<Option<Buf>, View<Buf>, Key, OneOwner, Global>;
 
+/// A thread's right to step: of a pass, or of a half.
 pub type HeapSeat = Seat<Option<Buf>, View<Buf>>;
 
-/// The bit of the application half.
+// The bit of the application half.
 pub(crate) const APP: u64 = 1;
 
-/// The bit of the device half.
+// The bit of the device half.
 pub(crate) const DEV: u64 = 2;

@@ -1,8 +1,9 @@
 use std::collections::LinkedList;
 
-/// A superblock: where it lies, and how many buffers it has. No value of it is made.
+/// A superblock: the number of the memory block in which its first row lies, and how many buffers it has. No value of it
+/// is made.
 pub struct Superblock {
-    pub place: *const u8,
+    pub place: u64,
     pub count: u64,
 }
 

@@ -1,6 +1,7 @@
 -- Histories with what each of their operations is answered.
+use Rattle.std.proofs.Common.{ap}
 use Rattle.std.specs.Prelude.{◌≡◌, ℕ, zero, suc, ◌+◌, List, [], ◌∷◌, Option, Some, None, length, replicate, refl}
-use Rattle.demi_heap.specs.Seen.{HalfValue, half_held}
+use Rattle.demi_heap.specs.Seen.{HalfValue, SawHeld}
 use Rattle.demi_memq.specs.declared.op.MemOp.{MemOp}
 use Rattle.demi_memq.specs.declared.op.MemOp.TheVariants.{Queue, Push, Pop, Close, Stop}
 use Rattle.demi_memq.specs.declared.out.MemOut.{MemOut}
@@ -60,5 +61,5 @@ a_queue_too_many : result_at 1024 (replicate 257 Queue) 256 ≡ Some TooMany
 a_queue_too_many = refl
 
 -- an array stays the same whatever a holder of its half finds
-what_was_found_is_not_said : (a : HalfValue) → array_said (half_held a ∷ []) ≡ array_said (a ∷ [])
-what_was_found_is_not_said a = refl
+what_was_found_is_not_said : (a b : HalfValue) → SawHeld a b → array_said (b ∷ []) ≡ array_said (a ∷ [])
+what_was_found_is_not_said a b found = ap (λ (z : HalfValue). array_said (z ∷ [])) found.2

@@ -7,9 +7,9 @@ use Rattle.demi_memq.specs.declared.op.MemOp.TheVariants.{Queue, Push, Pop, Clos
 use Rattle.demi_memq.specs.declared.out.MemOut.{MemOut}
 use Rattle.demi_memq.specs.declared.out.MemOut.TheVariants.{Opened, TooMany, Pushed, BadQueue, Shut, Closed, QueueFull, Item, Stopped, Halted}
 
--- a half says its heap, slot, class and bytes, and not how often a holder found the slot held
+-- a half says its heap, slot, class and bytes, and not when a holder found the slot held
 abbrev pub half_said : HalfValue → HalfValue
-half_said a = record a { held = [] }
+half_said a = record a { clock = 0; held = [] }
 
 -- an array says its halves in order
 abbrev pub array_said : List HalfValue → List HalfValue

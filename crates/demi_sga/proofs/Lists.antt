@@ -7,7 +7,7 @@ use Rattle.demi_buf.specs.Bufs.{size_of}
 use Rattle.demi_buf.specs.declared.class.Class.{Class}
 use Rattle.demi_buf.specs.declared.class.Class.TheVariants.{Small, Page, Large}
 use Rattle.demi_heap.specs.Seen.{HeapId, HalfValue}
-use Rattle.demi_sga.specs.Arrays.{AreOf, SameSlots, byte_count, part_of, first_held, held_at, written_at}
+use Rattle.demi_sga.specs.Arrays.{AreOf, SameSlots, byte_count, part_of, FirstHeld, HeldAt, written_at}
 
 pub size_limit : (c : Class) → size_of c ≤ 65536
 size_limit Small = omega arith
@@ -84,13 +84,31 @@ bytes_append : (xs ys : List HalfValue) → byte_count (xs ++ ys) ≡ byte_count
 bytes_append [] ys = omega arith
 bytes_append (x ∷ xs) ys = let r = bytes_append xs ys in omega arith
 
-held_bytes : (xs : List HalfValue) → byte_count (first_held xs) ≡ byte_count xs
-held_bytes [] = refl
-held_bytes (x ∷ xs) = refl
+held_bytes : (xs ys : List HalfValue) → FirstHeld xs ys → byte_count ys ≡ byte_count xs
+held_bytes [] ys f = ap byte_count f
+held_bytes (x ∷ xs) ys f = let same : length f.0.bytes ≡ length x.bytes = ap (λ (z : HalfValue). length z.bytes) f.1.2 in ap byte_count f.2 ∙ (let g : length f.0.bytes + byte_count xs ≡ length x.bytes + byte_count xs = omega arith in g)
 
-held_length : (xs : List HalfValue) → length (first_held xs) ≡ length xs
-held_length [] = refl
-held_length (x ∷ xs) = refl
+held_length : (xs ys : List HalfValue) → FirstHeld xs ys → length ys ≡ length xs
+held_length [] ys f = ap length f
+held_length (x ∷ xs) ys f = ap length f.2
+
+at_front : (front xs : List HalfValue) (a : HalfValue) → get_elem? (front ++ a ∷ xs) (length front) ≡ some a
+at_front [] xs a = refl
+at_front (y ∷ front) xs a = at_front front xs a
+
+set_front : (front xs : List HalfValue) (a b : HalfValue) → front ++ b ∷ xs ≡ set (front ++ a ∷ xs) (length front) b
+set_front [] xs a b = refl
+set_front (y ∷ front) xs a b = λ i. y ∷ set_front front xs a b i
+
+first_at : (front xs ys : List HalfValue) → FirstHeld xs ys → 0 < length ys → HeldAt (length front) (front ++ xs) (front ++ ys)
+first_at front [] ys f some_left = let none = ap length f in absurd (omega arith)
+first_at front (a ∷ xs) ys f some_left = record {
+  segment = a;
+  after = f.0;
+  there = at_front front xs a;
+  found = f.1;
+  others = (λ i. front ++ f.2 i) ∙ set_front front xs a f.0;
+}
 
 pub parts : (k : ℕ) (xs : List HalfValue) → take k xs ++ drop k xs ≡ xs
 parts zero xs = refl
@@ -118,17 +136,19 @@ drop_past [] xs k = ap (λ (n : ℕ). drop n xs) (let e : 0 + k ≡ k = omega ar
 drop_past (b ∷ bs) xs k = ap (λ (n : ℕ). drop n (b ∷ bs ++ xs)) (let e : suc (length bs) + k ≡ suc (length bs + k) = omega arith in e) ∙ drop_past bs xs k
 
 -- what a reclaim leaves
-module _ (back more left rest : List HalfValue) (took : more ≡ take (length more) rest) (leaves : left ≡ first_held (drop (length more) rest)) where
+module _ (back more left rest : List HalfValue) (took : more ≡ take (length more) rest) (leaves : FirstHeld (drop (length more) rest) left) where
   pub back_length : length more + length left ≡ length rest
-  back_length = let p = ap length (parts (length more) rest) in let a = length-append (take (length more) rest) (drop (length more) rest) in let t = ap length took in let l = ap length leaves in let h = held_length (drop (length more) rest) in omega arith
+  back_length = let p = ap length (parts (length more) rest) in let a = length-append (take (length more) rest) (drop (length more) rest) in let t = ap length took in let h = held_length (drop (length more) rest) left leaves in omega arith
 
   pub back_bytes : byte_count ((back ++ more) ++ left) ≡ byte_count (back ++ rest)
   back_bytes = let a = bytes_append (back ++ more) left in let b = bytes_append back more in let c = bytes_append back rest in let p = ap byte_count (parts (length more) rest) in let d = bytes_append (take (length more) rest) (drop (length more) rest) in
-      let t = ap byte_count took in let l = ap byte_count leaves in let h = held_bytes (drop (length more) rest) in omega arith
+      let t = ap byte_count took in let h = held_bytes (drop (length more) rest) left leaves in omega arith
 
-  pub back_held : (back ++ more) ++ left ≡ held_at (length (back ++ more)) (back ++ rest)
-  back_held = let n = length-append back more in
-      (λ i. (back ++ took i) ++ leaves i) ∙ ((λ i. sym (take_past back rest (length more)) i ++ first_held (sym (drop_past back rest (length more)) i)) ∙ ap (λ (k : ℕ). held_at k (back ++ rest)) (sym n))
+  pub back_held : 0 < length left → HeldAt (length (back ++ more)) (back ++ rest) ((back ++ more) ++ left)
+  back_held some_left = subst (λ (xs : List HalfValue). HeldAt (length (back ++ more)) xs ((back ++ more) ++ left)) whole (first_at (back ++ more) (drop (length more) rest) left leaves some_left)
+    where
+      whole : (back ++ more) ++ drop (length more) rest ≡ back ++ rest
+      whole = append_again back more (drop (length more) rest) ∙ (λ i. back ++ ((λ j. took j ++ drop (length more) rest) ∙ parts (length more) rest) i)
 
   pub back_all : left ≡ [] → back ++ more ≡ back ++ rest
   back_all none = let l = ap length none in let n = back_length in let long : length rest ≤ length more = omega arith in λ i. back ++ (took ∙ take_all (length more) rest long) i
@@ -136,13 +156,6 @@ module _ (back more left rest : List HalfValue) (took : more ≡ take (length mo
 pub append_of : (h : HeapId) (xs ys : List HalfValue) → AreOf h xs → AreOf h ys → AreOf h (xs ++ ys)
 append_of h [] ys o p = p
 append_of h (x ∷ xs) ys o p = (o.0, append_of h xs ys o.1 p)
-
-pub held_of : (h : HeapId) (k : ℕ) (xs : List HalfValue) → AreOf h xs → AreOf h (held_at k xs)
-held_of h k xs o = let p = of_parts h k xs o in append_of h (take k xs) (first_held (drop k xs)) p.0 (first (drop k xs) p.1)
-  where
-    first : (ys : List HalfValue) → AreOf h ys → AreOf h (first_held ys)
-    first [] q = q
-    first (y ∷ ys) q = q
 
 pub written_of : (h : HeapId) (i : ℕ) (xs : List HalfValue) (bytes : List ℕ) → AreOf h xs → AreOf h (written_at i xs bytes)
 written_of h i [] bytes o = tt
@@ -158,3 +171,6 @@ pub set_of : (h : HeapId) (i : ℕ) (xs : List HalfValue) (a b : HalfValue) → 
 set_of h i [] a b at same o = tt
 set_of h zero (x ∷ xs) a b at same o = (same ∙ (ap (λ (z : HalfValue). z.heap) (sym (some-injective x a at)) ∙ o.0), o.1)
 set_of h (suc i) (x ∷ xs) a b at same o = (o.0, set_of h i xs a b at same o.1)
+
+pub held_of : (h : HeapId) (k : ℕ) (xs ys : List HalfValue) → HeldAt k xs ys → AreOf h xs → AreOf h ys
+held_of h k xs ys held o = subst (AreOf h) (sym held.others) (set_of h k xs held.segment held.after held.there (ap (λ (z : HalfValue). z.heap) held.found.2) o)

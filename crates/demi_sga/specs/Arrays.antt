@@ -1,8 +1,12 @@
 -- What a contract sees of an array.
-use Rattle.std.specs.Prelude.{cond, ltb, ◌||◌, ◌==◌, replicate, ◌-◌, nat_lt, ◌≡◌, ℕ, zero, suc, ◌+◌, Bool, List, [], ◌∷◌, ◌++◌, length, take, drop, if◌then◌else◌, nat_le}
+use Rattle.std.specs.Prelude.{cond, ltb, ◌||◌, ◌==◌, replicate, ◌-◌, nat_lt, ◌≡◌, ℕ, zero, suc, ◌+◌, ◌<◌, ◌≤◌, Bool, List, slice_set, [], ◌∷◌, ◌++◌, length, take, drop, if◌then◌else◌, nat_le}
+use Rattle.demi_buf.specs.Bufs.{size_of}
 use Rattle.demi_buf.specs.declared.class.Class.{Class}
 use Rattle.demi_buf.specs.declared.class.Class.TheVariants.{Small, Page, Large}
-use Rattle.demi_heap.specs.Seen.{HeapId, HalfValue, PassValue, half_held, new_half, half_with, half_written}
+use mathlib.Core.Option.{some}
+use lib.ListN.{get_elem?}
+use Rattle.demi_heap.specs.Rule.{first_of, end_of}
+use Rattle.demi_heap.specs.Seen.{HeapId, HalfValue, PassValue, FoundFree, SawHeld, SawOwned, looked_as, one_claimed, new_half, half_with, half_written}
 
 -- an array that was lent: its segments in order, and how many of them are taken back already
 pub record LentValue : Type 0 where
@@ -21,10 +25,18 @@ SameSlots [] (b ∷ bs) = ⊥
 SameSlots (a ∷ xs) [] = ⊥
 SameSlots (a ∷ xs) (b ∷ bs) = (a.slot ≡ b.slot) × SameSlots xs bs
 
--- the first segment was found held by the device
-abbrev pub first_held : List HalfValue → List HalfValue
-first_held [] = []
-first_held (a ∷ xs) = half_held a ∷ xs
+-- ys are the segments xs, but that a call found the first held by the device
+abbrev pub FirstHeld : List HalfValue → List HalfValue → Type 0
+FirstHeld [] ys = ys ≡ []
+FirstHeld (a ∷ xs) ys = (b : HalfValue) × SawHeld a b × (ys ≡ b ∷ xs)
+
+-- ys are the segments xs, but that a call found the k-th held by the device
+pub record HeldAt (k : ℕ) (xs ys : List HalfValue) : Type 0 where
+  pub segment : HalfValue
+  pub after : HalfValue
+  pub there : get_elem? xs k ≡ some segment
+  pub found : SawHeld segment after
+  pub others : ys ≡ slice_set xs k after
 
 -- how many bytes all segments have
 abbrev pub byte_count : List HalfValue → ℕ
@@ -33,7 +45,7 @@ byte_count (a ∷ xs) = length a.bytes + byte_count xs
 
 -- the least class that holds n bytes
 abbrev pub class_for : ℕ → Class
-class_for n = if nat_le n 256 then Small else (if nat_le n 4096 then Page else Large)
+class_for n = if nat_le n (size_of Small) then Small else (if nat_le n (size_of Page) then Page else Large)
 
 -- what the numbers of a pass become by n calls
 abbrev pub loaned_by : PassValue → ℕ → PassValue
@@ -60,14 +72,17 @@ written_at i [] bytes = []
 written_at zero (a ∷ xs) bytes = half_written a bytes ∷ xs
 written_at (suc i) (a ∷ xs) bytes = a ∷ written_at i xs bytes
 
--- the k-th segment was found held by the device
-abbrev pub held_at : ℕ → List HalfValue → List HalfValue
-held_at k xs = take k xs ++ first_held (drop k xs)
-
 -- no segment holds so many bytes, or they are none
 abbrev pub bad_size : ℕ → Bool
-bad_size n = (n == 0) || nat_lt 65536 n
+bad_size n = (n == 0) || nat_lt (size_of Large) n
 
 -- a new half with n bytes, all 0
 abbrev pub zeroed : HeapId → Class → ℕ → ℕ → HalfValue
 zeroed h c slot n = half_with (new_half h c slot) (replicate n 0)
+
+-- A call that brought the pass from v to w claimed this slot of the class: each slot of the class before it had an owner, and it had no half
+pub record Claimed (h : HeapId) (c : Class) (v w : PassValue) (slot : ℕ) : Type 0 where
+  pub in_class : (first_of h.shape c ≤ slot) × (slot < end_of h.shape c)
+  pub skipped : SawOwned v w (first_of h.shape c) slot
+  pub free : FoundFree (looked_as v w) slot
+  pub pass : w ≡ one_claimed (looked_as v w)

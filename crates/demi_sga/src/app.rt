@@ -3,8 +3,8 @@ ghost use Rattle.std.specs.Borrow.{Lends, Array, sem, u8};
 ghost use mathlib.Core.Option.{some};
 ghost use lib.ListN.{get_elem?};
 ghost use Rattle.demi_buf.specs.Bufs.{size_of};
-ghost use Rattle.demi_heap.specs.Seen.{HalfValue};
-ghost use Rattle.demi_sga.specs.Arrays.{byte_count, sized, written_at};
+ghost use Rattle.demi_heap.specs.Seen.{HalfValue, HeapId};
+ghost use Rattle.demi_sga.specs.Arrays.{AreOf, byte_count, sized, written_at};
 ghost use Rattle.demi_sga.specs.Rows.{items};
 ghost use Rattle.demi_sga.specs.contracts.app.AppSga.{the_row};
 
@@ -68,6 +68,7 @@ impl AppSga {
     /// The segments of both in order. Refused exactly where they are more than 8.
     pub fn join(first: AppSga, second: AppSga) -> Result<AppSga, (AppSga, AppSga)>
         ensures ok { IfOk result (λ s. (s ≡ first ++ second) × (length first + length second ≤ 8)) }
+        ensures heap { IfOk result (λ s. (h : HeapId) → AreOf h first → AreOf h second → AreOf h s) }
         ensures err { IfErr result (λ p. (p.0 ≡ first) × (p.1 ≡ second) × (8 < length first + length second)) }
     {
         if first.segments() + second.segments() > 8 {
@@ -81,12 +82,14 @@ impl AppSga {
     /// The first `k` segments, and the rest.
     pub fn split(self, k: u32) -> (AppSga, AppSga)
         requires { (1 ≤ k) × (k < length self) }
-        ensures { (result.0 ≡ take k self) × (result.1 ≡ drop k self) }
+        ensures parts { (result.0 ≡ take k self) × (result.1 ≡ drop k self) }
+        ensures heap { (h : HeapId) → AreOf h self → AreOf h result.0 × AreOf h result.1 }
     {
         let (front, back) = self.into_row().split(k as usize);
         (AppSga::of_row(front), AppSga::of_row(back))
     }
 
+    /// How many segments it has.
     pub fn segments(&self) -> u32
         ensures count { result ≡ length self.now }
         ensures limit { (1 ≤ result) × (result ≤ 8) }
@@ -132,7 +135,8 @@ impl AppSga {
     pub fn set_len(&mut self, i: u32, n: u32)
         requires index { i < length self.old }
         requires size { (a : HalfValue) → get_elem? self.old i ≡ some a → n ≤ size_of a.class }
-        ensures { (a : HalfValue) → get_elem? self.old i ≡ some a → self.new ≡ slice_set self.old i (sized a n) }
+        ensures sized { (a : HalfValue) → get_elem? self.old i ≡ some a → self.new ≡ slice_set self.old i (sized a n) }
+        ensures heap { (h : HeapId) → AreOf h self.old → AreOf h self.new }
     {
         turn(&mut self.front, &mut self.here, &mut self.back, i as usize);
         self.here.set_len(n);
@@ -144,7 +148,7 @@ impl AppSga {
     }
 }
 
-/// Brings the segment `i` between those before it and those after it.
+// Brings the segment `i` between those before it and those after it.
 fn turn(front: &mut Row<AppBuf>, here: &mut AppBuf, back: &mut Row<AppBuf>, i: usize)
     requires { (i ≤ length (items front.old) + length (items back.old)) × (length (items front.old) + length (items back.old) ≤ 7) }
     ensures same { items front.new ++ here.new ∷ items back.new ≡ items front.old ++ here.old ∷ items back.old }
@@ -179,7 +183,7 @@ fn lose_all(row: Row<AppBuf>) {
     lose_all(rest);
 }
 
-/// The length of one segment, which is at most that of the largest class.
+// The length of one segment, which is at most that of the largest class.
 fn segment_len(buf: &AppBuf) -> u32
     ensures bytes { result ≡ length buf.now.bytes }
     ensures limit { result ≤ 65536 }

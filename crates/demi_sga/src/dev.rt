@@ -1,5 +1,6 @@
 ghost use Rattle.std.specs.Prelude.{◌≡◌, ◌+◌, ◌<◌, ◌≤◌, length, take, drop};
-ghost use Rattle.demi_sga.specs.Arrays.{byte_count, part_of};
+ghost use Rattle.demi_heap.specs.Seen.{HeapId};
+ghost use Rattle.demi_sga.specs.Arrays.{AreOf, byte_count, part_of};
 ghost use Rattle.demi_sga.specs.Rows.{items};
 
 use crate::row::Row;
@@ -24,8 +25,10 @@ impl Model for DevSga {
 }
 
 impl DevSga {
+    /// How many segments it has.
     pub fn segments(&self) -> u32
-        ensures { result ≡ length self.now }
+        ensures count { result ≡ length self.now }
+        ensures limit { (1 ≤ result) × (result ≤ 8) }
     {
         self.row.len() as u32
     }
@@ -33,7 +36,8 @@ impl DevSga {
     /// The first `k` segments, and the rest.
     pub fn split(self, k: u32) -> (DevSga, DevSga)
         requires { (1 ≤ k) × (k < length self) }
-        ensures { (result.0 ≡ take k self) × (result.1 ≡ drop k self) }
+        ensures parts { (result.0 ≡ take k self) × (result.1 ≡ drop k self) }
+        ensures heap { (h : HeapId) → AreOf h self → AreOf h result.0 × AreOf h result.1 }
     {
         let DevSga { row } = self;
         let (front, back) = row.split(k as usize);
@@ -73,7 +77,7 @@ fn lose_all(row: Row<DevBuf>) {
     lose_all(rest);
 }
 
-/// The length of one segment, which is at most that of the largest class.
+// The length of one segment, which is at most that of the largest class.
 fn segment_len(buf: &DevBuf) -> u32
     ensures bytes { result ≡ length buf.now.bytes }
     ensures limit { result ≤ 65536 }
@@ -93,7 +97,7 @@ fn len_of(row: &Row<DevBuf>) -> u32
     total
 }
 
-/// The bytes from `from` on, which counts from the start of segment `i`.
+// The bytes from `from` on, which counts from the start of segment `i`.
 fn part_from(row: &Row<DevBuf>, i: usize, from: usize, max: usize) -> &[u8]
     requires { (i ≤ length (items row.now)) × (from < byte_count (drop i (items row.now))) × (1 ≤ max) }
     ensures { result.now ≡ part_of (drop i (items row.now)) from max }

@@ -30,8 +30,10 @@ impl Model for LentSga {
 pub struct StillHeld(pub LentSga);
 
 impl LentSga {
+    /// How many segments it has, with those that were taken back.
     pub fn segments(&self) -> u32
-        ensures { result ≡ length self.now.segments }
+        ensures count { result ≡ length self.now.segments }
+        ensures limit { (1 ≤ result) × (result ≤ 8) }
     {
         (self.back.len() + self.rest.len()) as u32
     }

@@ -2,15 +2,15 @@
 ghost use Rattle.std.specs.Prelude.{◌≡◌, ℕ, ◌+◌, ◌-◌, ◌<◌, ◌≤◌, ◌↔◌, [], ◌∷◌, ◌++◌, length, take, drop, IfOk, IfErr, IsTrue};
 ghost use Rattle.demi_buf.specs.Bufs.{size_of};
 ghost use Rattle.demi_heap.specs.Rule.{end_of, first_of};
-ghost use Rattle.demi_heap.specs.Seen.{having_missed, one_claimed};
-ghost use Rattle.demi_sga.specs.Arrays.{AreOf, SameSlots, bad_size, class_for, ended_by, first_held, held_at, loaned_by, returned_by, zeroed};
+ghost use Rattle.demi_heap.specs.Seen.{SawOwned, looked_as};
+ghost use Rattle.demi_sga.specs.Arrays.{AreOf, Claimed, FirstHeld, HeldAt, SameSlots, bad_size, class_for, ended_by, loaned_by, returned_by, zeroed};
 ghost use Rattle.demi_sga.specs.Rows.{items};
 
 use crate::app::AppSga;
 use crate::dev::DevSga;
 use crate::lent::{LentSga, StillHeld};
 use crate::row::Row;
-use demi_buf::Class;
+use demi_buf::{Class, LARGE_BYTES, PAGE_BYTES, SMALL_BYTES};
 use demi_heap::{AppBuf, DevBuf, Heap, HeapPass, Lent, NoSlot};
 
 fn lend_row(heap: &Heap, pass: &mut HeapPass, row: Row<AppBuf>) -> (Row<Lent>, Row<DevBuf>)
@@ -113,12 +113,12 @@ pub fn free_lent(heap: &Heap, pass: &mut HeapPass, sga: LentSga)
     let_row_go(heap, pass, rest);
 }
 
-/// Takes the front segments back, up to the first that the device still has.
+// Takes the front segments back, up to the first that the device still has.
 fn reclaim_row(heap: &Heap, pass: &mut HeapPass, row: Row<Lent>) -> (Row<AppBuf>, Row<Lent>)
     requires { (pass.old.heap ≡ heap.now) × AreOf heap.now (items row) × (length (items row) ≤ 8) }
     ensures pass { pass.new ≡ pass.old }
     ensures back { items result.0 ≡ take (length (items result.0)) (items row) }
-    ensures rest { items result.1 ≡ first_held (drop (length (items result.0)) (items row)) }
+    ensures rest { FirstHeld (drop (length (items result.0)) (items row)) (items result.1) }
 {
     if row.len() == 0 {
         row.end();
@@ -140,7 +140,7 @@ pub fn reclaim(heap: &Heap, pass: &mut HeapPass, half: LentSga) -> Result<AppSga
     requires { (pass.old.heap ≡ heap.now) × AreOf heap.now half.segments }
     ensures pass { pass.new ≡ pass.old }
     ensures ok { IfOk result (λ s. s ≡ half.segments) }
-    ensures err { IfErr result (λ e. (half.back ≤ e.0.back) × (e.0.back < length half.segments) × (e.0.segments ≡ held_at e.0.back half.segments)) }
+    ensures err { IfErr result (λ e. (half.back ≤ e.0.back) × (e.0.back < length half.segments) × HeldAt e.0.back half.segments e.0.segments) }
     ensures heap { IfErr result (λ e. AreOf heap.now e.0.segments) }
 {
     let LentSga { back, rest, len } = half;
@@ -198,31 +198,33 @@ pub enum SgaRefusal {
     NoSlot,
 }
 
-/// The least class that holds so many bytes.
+// The least class that holds so many bytes.
 fn class_of(n: u32) -> Class
-    requires { n ≤ 65536 }
+    requires { n ≤ LARGE_BYTES }
     ensures class { result ≡ class_for n }
     ensures size { n ≤ size_of result }
 {
-    if n <= 256 {
+    if n <= SMALL_BYTES {
         Class::Small
-    } else if n <= 4096 {
+    } else if n <= PAGE_BYTES {
         Class::Page
     } else {
         Class::Large
     }
 }
 
-/// One segment of the least class that holds `n` bytes, all 0. `BadSize` exactly where `n` is 0 or above 65,536, and
-/// `NoSlot` as `Heap::claim`.
+/// One segment of the least class that holds `n` bytes, all 0. `BadSize` exactly where `n` is 0 or above `LARGE_BYTES`, and
+/// `NoSlot` only where each slot of that class had an owner at a step of its own in this call, as the pass then says.
 pub fn sgaalloc(heap: &Heap, pass: &mut HeapPass, n: u32) -> Result<AppSga, SgaRefusal>
     requires { pass.old.heap ≡ heap.now }
     ensures size { IsTrue (bad_size n) ↔ (result ≡ Err SgaRefusal.BadSize) }
     ensures bad { IsTrue (bad_size n) → pass.new ≡ pass.old }
-    ensures ok { IfOk result (λ s. (slot : ℕ) × (s ≡ zeroed heap.now (class_for n) slot n ∷ []) × (pass.new ≡ one_claimed (having_missed pass.old (first_of heap.now.shape (class_for n)) (slot - first_of heap.now.shape (class_for n))))) }
-    ensures none { result ≡ Err SgaRefusal.NoSlot → pass.new ≡ having_missed pass.old (first_of heap.now.shape (class_for n)) (end_of heap.now.shape (class_for n) - first_of heap.now.shape (class_for n)) }
+    ensures ok { IfOk result (λ s. (slot : ℕ) × (s ≡ zeroed heap.now (class_for n) slot n ∷ []) × Claimed heap.now (class_for n) pass.old pass.new slot) }
+    ensures none { result ≡ Err SgaRefusal.NoSlot → SawOwned pass.old pass.new (first_of heap.now.shape (class_for n)) (end_of heap.now.shape (class_for n)) }
+    ensures same { result ≡ Err SgaRefusal.NoSlot → pass.new ≡ looked_as pass.old pass.new }
+    ensures clock { pass.old.clock ≤ pass.new.clock }
 {
-    if n == 0 || n > 65536 {
+    if n == 0 || n > LARGE_BYTES {
         return Err(SgaRefusal::BadSize);
     }
     match heap.claim(pass, class_of(n)) {

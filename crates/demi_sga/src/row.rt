@@ -18,6 +18,7 @@ pub enum Row<T> {
 }
 
 impl<T> Row<T> {
+    /// How many pieces it has.
     pub fn len(&self) -> usize
         ensures { result ≡ length (items self.now) }
     {

@@ -12,7 +12,7 @@ use std::test::Fail;
 
 mod contents;
 
-/// A heap with so many small slots, one page and one large slot.
+// A heap with so many small slots, one page and one large slot.
 fn open<R: Abort>(rt: &R, alloc: Global, small: u32) -> (Heap, HeapPass)
     requires { small ≤ 9 }
     ensures { (result.1.heap ≡ result.0) × (result.0.shape.passes ≡ 1) }
@@ -28,7 +28,7 @@ fn open<R: Abort>(rt: &R, alloc: Global, small: u32) -> (Heap, HeapPass)
     (heap, passes.pop().unwrap())
 }
 
-/// Allocates an array that is never freed. Its length, or why there is none.
+// Allocates an array that is never freed. Its length, or why there is none.
 fn keep(heap: &Heap, pass: &mut HeapPass, n: u32) -> Result<u32, SgaRefusal>
     requires { pass.old.heap ≡ heap.now }
     ensures { pass.new.heap ≡ heap.now }
@@ -43,7 +43,7 @@ fn keep(heap: &Heap, pass: &mut HeapPass, n: u32) -> Result<u32, SgaRefusal>
     Ok(if zeros { len } else { 0 })
 }
 
-/// An array of one segment of one byte.
+// An array of one segment of one byte.
 fn byte<R: Abort>(rt: &R, heap: &Heap, pass: &mut HeapPass, value: u8) -> AppSga
     requires { pass.old.heap ≡ heap.now }
     ensures { AreOf heap.now result × (pass.new.heap ≡ heap.now) }
@@ -96,7 +96,7 @@ fn sizes_choose_the_class_or_are_refused(rt: HostRuntime) -> Result<(), Fail> {
     Ok(())
 }
 
-/// Both as one array.
+// Both as one array.
 fn pair<R: Abort>(rt: &R, heap: &Heap, first: AppSga, second: AppSga) -> AppSga
     requires { AreOf heap.now first × AreOf heap.now second }
     ensures { AreOf heap.now result }
@@ -105,7 +105,7 @@ fn pair<R: Abort>(rt: &R, heap: &Heap, first: AppSga, second: AppSga) -> AppSga
     joined(rt, first, second)
 }
 
-/// The three as one array.
+// The three as one array.
 fn three<R: Abort>(rt: &R, heap: &Heap, first: AppSga, second: AppSga, third: AppSga) -> AppSga
     requires { AreOf heap.now first × AreOf heap.now second × AreOf heap.now third }
     ensures { AreOf heap.now result }
@@ -114,7 +114,7 @@ fn three<R: Abort>(rt: &R, heap: &Heap, first: AppSga, second: AppSga, third: Ap
     pair(rt, heap, front, third)
 }
 
-/// The first segment and the others.
+// The first segment and the others.
 fn split_dev<R: Abort>(rt: &R, heap: &Heap, dev: DevSga) -> (DevSga, DevSga)
     requires { AreOf heap.now dev }
     ensures { AreOf heap.now result.0 × AreOf heap.now result.1 }
@@ -126,7 +126,7 @@ fn split_dev<R: Abort>(rt: &R, heap: &Heap, dev: DevSga) -> (DevSga, DevSga)
     dev.split(1)
 }
 
-/// Closes the heap: how many slots were free.
+// Closes the heap: how many slots were free.
 fn free_at_end<R: Abort>(rt: &R, alloc: Global, heap: Heap, pass: HeapPass) -> u32
     requires { (pass.heap ≡ heap) × (heap.shape.passes ≡ 1) }
 {
@@ -137,7 +137,7 @@ fn free_at_end<R: Abort>(rt: &R, alloc: Global, heap: Heap, pass: HeapPass) -> u
     heap.close(passes).free
 }
 
-/// Releases the first and the last of three segments.
+// Releases the first and the last of three segments.
 fn release_outer<R: Abort>(rt: &R, heap: &Heap, pass: &mut HeapPass, dev: DevSga) -> DevSga
     requires { (pass.old.heap ≡ heap.now) × AreOf heap.now dev }
     ensures { AreOf heap.now result × (pass.new.heap ≡ heap.now) }
@@ -149,7 +149,7 @@ fn release_outer<R: Abort>(rt: &R, heap: &Heap, pass: &mut HeapPass, dev: DevSga
     middle
 }
 
-/// The half of an array that the device still has.
+// The half of an array that the device still has.
 fn held<R: Abort>(rt: &R, heap: &Heap, pass: &mut HeapPass, half: LentSga) -> LentSga
     requires { (pass.old.heap ≡ heap.now) × AreOf heap.now half.segments }
     ensures { AreOf heap.now result.segments × (pass.new.heap ≡ heap.now) }
@@ -160,7 +160,7 @@ fn held<R: Abort>(rt: &R, heap: &Heap, pass: &mut HeapPass, half: LentSga) -> Le
     }
 }
 
-/// The array that came back.
+// The array that came back.
 fn whole<R: Abort>(rt: &R, heap: &Heap, pass: &mut HeapPass, half: LentSga) -> AppSga
     requires { (pass.old.heap ≡ heap.now) × AreOf heap.now half.segments }
     ensures { AreOf heap.now result × (pass.new.heap ≡ heap.now) }

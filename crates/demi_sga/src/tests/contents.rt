@@ -8,7 +8,7 @@ use demi_heap::{Heap, HeapPass};
 use std::process::Abort;
 use std::test::Fail;
 
-/// A new array of so many bytes.
+// A new array of so many bytes.
 fn allocated<R: Abort>(rt: &R, heap: &Heap, pass: &mut HeapPass, n: u32) -> AppSga
     requires { pass.old.heap ≡ heap.now }
     ensures { AreOf heap.now result × (pass.new.heap ≡ heap.now) }
@@ -19,7 +19,7 @@ fn allocated<R: Abort>(rt: &R, heap: &Heap, pass: &mut HeapPass, n: u32) -> AppS
     }
 }
 
-/// The array with the bytes of its segment `i` all of this value.
+// The array with the bytes of its segment `i` all of this value.
 fn filled<R: Abort>(rt: &R, heap: &Heap, sga: AppSga, i: u32, value: u8) -> AppSga
     requires { AreOf heap.now sga }
     ensures { AreOf heap.now result }
@@ -33,7 +33,7 @@ fn filled<R: Abort>(rt: &R, heap: &Heap, sga: AppSga, i: u32, value: u8) -> AppS
     sga
 }
 
-/// Whether the segment `i` has these bytes.
+// Whether the segment `i` has these bytes.
 fn has<R: Abort>(rt: &R, sga: &AppSga, i: u32, bytes: &[u8]) -> bool {
     if i >= sga.segments() {
         panic!(rt; "no such segment")
@@ -56,7 +56,7 @@ fn a_new_array_is_zero_though_its_slot_held_bytes(rt: HostRuntime) -> Result<(),
     Ok(())
 }
 
-/// Three segments of one byte each: 0x61, 0x62 and 0x63.
+// Three segments of one byte each: 0x61, 0x62 and 0x63.
 fn abc<R: Abort>(rt: &R, heap: &Heap, pass: &mut HeapPass) -> AppSga
     requires { pass.old.heap ≡ heap.now }
     ensures { AreOf heap.now result × (pass.new.heap ≡ heap.now) }
@@ -67,7 +67,7 @@ fn abc<R: Abort>(rt: &R, heap: &Heap, pass: &mut HeapPass) -> AppSga
     three(rt, heap, first, second, third)
 }
 
-/// The array with the length of its segment `i` set to at most 256 bytes.
+// The array with the length of its segment `i` set to at most 256 bytes.
 fn resized<R: Abort>(rt: &R, heap: &Heap, sga: AppSga, i: u32, n: u32) -> AppSga
     requires { AreOf heap.now sga × (n ≤ 256) }
     ensures { AreOf heap.now result }
@@ -101,7 +101,7 @@ fn a_segment_is_written_and_resized_in_its_place(rt: HostRuntime) -> Result<(), 
     Ok(())
 }
 
-/// Whether one segment more than eight is refused, and both arrays come back.
+// Whether one segment more than eight is refused, and both arrays come back.
 fn ninth_is_refused(heap: &Heap, pass: &mut HeapPass, eight: AppSga, one: AppSga) -> bool
     requires { (pass.old.heap ≡ heap.now) × AreOf heap.now eight × AreOf heap.now one }
     ensures { pass.new.heap ≡ heap.now }
@@ -153,7 +153,7 @@ fn a_rejoined_array_has_its_bytes(rt: HostRuntime) -> Result<(), Fail> {
     Ok(())
 }
 
-/// Whether the part from `from` on, of at most `max` bytes, is this.
+// Whether the part from `from` on, of at most `max` bytes, is this.
 fn part_is<R: Abort>(rt: &R, dev: &DevSga, from: u32, max: u32, bytes: &[u8]) -> bool
     requires { 1 ≤ max }
 {
@@ -184,7 +184,7 @@ fn a_part_ends_with_its_segment(rt: HostRuntime) -> Result<(), Fail> {
     Ok(())
 }
 
-/// Whether an array of one byte is refused for want of a slot. One that is got is freed.
+// Whether an array of one byte is refused for want of a slot. One that is got is freed.
 fn has_no_slot(heap: &Heap, pass: &mut HeapPass) -> bool
     requires { pass.old.heap ≡ heap.now }
     ensures { pass.new.heap ≡ heap.now }

@@ -1,5 +1,6 @@
-use Rattle.std.proofs.Common.{◌≡◌, ℕ, ◌+◌, ◌-◌, ◌<◌, List, [], ◌∷◌, ◌++◌, length, sym, ap, ◌∙◌, subst, arith}
-use denote.RawPtr.{Ptr}
+use Rattle.std.proofs.Common.{◌≡◌, ℕ, ◌+◌, ◌-◌, ◌<◌, List, [], ◌∷◌, ◌++◌, length, sym, ap, ◌∙◌, subst, arith, refl}
+use Rattle.std.specs.Vec.{vec_ptr}
+use denote.RawPtr.{block_of}
 use Rattle.demi_buf.specs.Bufs.{BufValue, carved}
 use Rattle.demi_heap_core.specs.declared.shape.Superblock.{Superblock}
 use Rattle.demi_heap.specs.Laid.{counts_shape, EachLies, IsLaid}
@@ -7,29 +8,27 @@ use Rattle.demi_heap.proofs.Laying.{total_snoc, lies_wider, lay_next}
 use Rattle.demi_heap.proofs.carve.lay_down.Goals as goal
 
 pub loop-init : goal.loop-init
-loop-init c = let n : ℕ = c.len-count.result in let p = c.requires.new.0.0 in let rs = c.args.carves.now.items in let row = c.args.row.now.items in let h = counts_shape c.args.counts.now in
+loop-init c = let n : ℕ = c.len-count.result in let p = block_of (vec_ptr c.args.bufs) in let rs = c.args.carves.now.items in let row = c.args.row.now.items in
     let r : Superblock = record { place = p; count = n } in let bufs = c.args.bufs.items in
-    let laid = c.requires.laid.0 in let wide = laid.wide in let near = c.requires.slots in let low = near.0 in let high = near.1 in
-    let size : length bufs ≡ n = omega arith in let whole : bufs ≡ carved p c.args.class n n = subst (λ (m : ℕ). bufs ≡ carved p c.args.class m m) size c.requires.new.0.1 in
-    let one = lay_next h c.args.class rs p n n 0 bufs c.take_last-last.new.self.items c.take_last-last.result row c.push_reserved.new.self.items
-    whole (omega arith) (omega arith) c.take_last-last.ensures.items c.push_reserved.ensures.items (omega arith)
-    (lies_wider rs (r ∷ []) row (omega arith) laid.each) c.requires.laid.1 low (omega arith) in
-    let where_is : c.place-place.result.row ≡ p = c.place-place.ensures ∙ ap (λ (z : BufValue). z.block) one.3 in (
-      one.0 ∙ ap (λ (q : Ptr). carved q c.args.class n (n - 1)) (sym where_is),
+    let laid = c.requires.laid.0 in let wide = laid.wide in
+    let size : length bufs ≡ n = omega arith in let whole : bufs ≡ carved p c.args.class n n = subst (λ (m : ℕ). bufs ≡ carved p c.args.class m m) size c.requires.new.0 in
+    let all : n ≡ n - 0 = omega arith in (
+      whole ∙ ap (λ (m : ℕ). carved p c.args.class n m) all,
       omega arith,
       omega arith,
       omega arith,
       omega arith,
-      subst (λ (q : Ptr). EachLies (rs ++ record { place = q; count = n } ∷ []) c.push_reserved.new.self.items) (sym where_is) one.1,
-      one.2,
+      lies_wider rs (r ∷ []) row (omega arith) laid.each,
+      c.requires.laid.1,
+      refl,
     )
 
 pub loop-preserved : goal.loop-preserved
-loop-preserved c = let n : ℕ = c.len-count.result in let p = c.place-place.result.row in let rs = c.args.carves.now.items in let h = counts_shape c.args.counts.now in
+loop-preserved c = let n : ℕ = c.len-count.result in let p = block_of (vec_ptr c.args.bufs) in let rs = c.args.carves.now.items in let h = counts_shape c.args.counts.now in
     let before = c.loop.invariant in let i : ℕ = c.loop.counter in let more = c.loop-test.true in let some_left : 0 < n - i = omega arith in let long = before.3 in
     let laid = c.requires.laid.0 in let wide = laid.wide in let near = c.requires.slots in let low = near.0 in let high = near.1 in
-    let one = lay_next h c.args.class rs p n (n - i) i c.loop.bufs.items c.take_last-buf.new.self.items c.take_last-buf.result c.loop.row.items c.push_reserved-in-loop.new.self.items
-    before.0 some_left (omega arith) c.take_last-buf.ensures.items c.push_reserved-in-loop.ensures.items (omega arith) before.5 before.6 (omega arith) (omega arith) in
+    let one = lay_next h c.args.class rs p n (n - i) i c.loop.bufs.items c.take_last-buf.new.self.items c.take_last-buf.result c.loop.row.items c.push_reserved.new.self.items
+    before.0 some_left (omega arith) c.take_last-buf.ensures.items c.push_reserved.ensures.items (omega arith) before.5 before.6 (omega arith) (omega arith) in
     let next : n - i - 1 ≡ n - (i + 1) = omega arith in (
       one.0 ∙ ap (λ (m : ℕ). carved p c.args.class n m) next,
       omega arith,
@@ -38,11 +37,13 @@ loop-preserved c = let n : ℕ = c.len-count.result in let p = c.place-place.res
       omega arith,
       one.1,
       one.2,
+      c.take_last-buf.ensures.in_place ∙ before.7,
     )
 
 pub returns-clause-laid : goal.returns-clause-laid
-returns-clause-laid c = let n : ℕ = c.len-count.result in let rs = c.args.carves.now.items in let r : Superblock = record { place = c.place-place.result.row; count = n } in
-    let before = c.loop.invariant in let long = before.3 in let wide = c.requires.laid.0.wide in let t = total_snoc rs r in (
-      subst (λ (xs : List Superblock). IsLaid xs c.loop.row.items) (sym c.push_reserved-2.ensures.items) record { wide = omega arith; each = before.5 },
+returns-clause-laid c = let n : ℕ = c.len-count.result in let rs = c.args.carves.now.items in
+    let before = c.loop.invariant in let r : Superblock = record { place = block_of (vec_ptr c.loop.bufs); count = n } in
+    let long = before.3 in let wide = c.requires.laid.0.wide in let t = total_snoc rs r in (
+      subst (λ (xs : List Superblock). IsLaid xs c.loop.row.items) (sym c.push_reserved-2.ensures.items) record { wide = omega arith; each = subst (λ q. EachLies (rs ++ record { place = block_of q; count = n } ∷ []) c.loop.row.items) (sym before.7) before.5 },
       before.6,
     )

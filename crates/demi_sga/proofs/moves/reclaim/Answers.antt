@@ -1,6 +1,6 @@
 use Rattle.std.proofs.Common.{◌≡◌, List, [], ◌∷◌, ◌++◌, length, sym, refl, ap, ◌∙◌, subst, arith, length-append}
 use Rattle.demi_heap.specs.Seen.{HalfValue}
-use Rattle.demi_sga.specs.Arrays.{AreOf, LentValue, byte_count, held_at}
+use Rattle.demi_sga.specs.Arrays.{AreOf, LentValue, byte_count, HeldAt}
 use Rattle.demi_sga.specs.Rows.{items}
 use Rattle.demi_sga.proofs.Lists.{back_length, back_bytes, back_held, back_all, held_of}
 use Rattle.demi_sga.proofs.moves.reclaim.Goals as goal
@@ -30,8 +30,9 @@ returns-else-len-eq0-clause-err c = let back = items c.half.inside.back in let r
     let size = ap length segments in (
       omega arith,
       omega arith,
-      ap (λ (xs : List HalfValue). xs ++ left) both ∙ (back_held back more left rest e.back e.rest ∙ (λ i. held_at (length (sym both i)) (segments i))),
+      subst (λ (ys : List HalfValue). HeldAt (length (items c.append-back.result)) ys (items c.append-back.result ++ left)) segments
+          (subst (λ (xs : List HalfValue). HeldAt (length xs) (back ++ rest) (xs ++ left)) (sym both) (back_held back more left rest e.back e.rest (omega arith))),
     )
 
 pub returns-else-len-eq0-clause-heap : goal.returns-else-len-eq0-clause-heap
-returns-else-len-eq0-clause-heap c = let h = c.args.heap.now in let held = (returns-else-len-eq0-clause-err c).2 in subst (AreOf h) (sym held) (held_of h _ c.args.half.segments c.requires.1)
+returns-else-len-eq0-clause-heap c = let h = c.args.heap.now in let held = (returns-else-len-eq0-clause-err c).2 in held_of h _ c.args.half.segments _ held c.requires.1
