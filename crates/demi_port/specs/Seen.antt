@@ -7,7 +7,7 @@ use Rattle.demi_port_core.specs.declared.view.Role.TheVariants.{Pass, Device}
 use Rattle.demi_port_core.specs.declared.view.Stage.TheVariants.{Idle}
 use Rattle.demi_port_core.specs.declared.view.View.{View}
 use Rattle.demi_port_core.specs.declared.trail.Trail.{Trail}
-use Rattle.demi_port_core.specs.History.{Each, Among, ground_of}
+use Rattle.demi_port_core.specs.History.{Apart, Each, Among, ground_of}
 use Rattle.demi_port_core.specs.Phases.{token_of, last_round}
 use Rattle.demi_port_core.specs.Seats.{submitted, bare_view}
 use Rattle.demi_port_core.specs.Told.{OwesNothing, clear}
@@ -70,14 +70,19 @@ pass_value z k v t = record { port = record { tokens = z; key = k }; number = v.
 abbrev pub device_value : {D T B : Type 0} → TableId → Key B → View D (Key B) → Trail D T → DeviceValue D T B
 device_value z k v t = record { port = record { tokens = z; key = k }; passes = v.number; clock = v.clock; looks = v.looks; rang = v.rang; fetched = v.fetched; finished = v.finished; trail = t.told; owes = v.owes }
 
+-- a token of a port with so many, of a round in which it can be had
+abbrev pub InRange : ℕ → ℕ → Type 0
+InRange count token = (token % 1024 < count) × (token / 1024 < last_round)
+
 -- the seats of a pass between two calls
-pub record FitsPass {S R D T B : Type 0} (key : Key B) (records : TableId) (me : Me S (View D (Key B))) (knows : Me R (Trail D T)) : Type 0 where
+pub record FitsPass {S R D T B : Type 0} (key : Key B) (records : TableId) (count : ℕ) (me : Me S (View D (Key B))) (knows : Me R (Trail D T)) : Type 0 where
   pub keyed : me.0.key ≡ Some key
   pub tied : records ≡ key.records
   pub role : me.0.role ≡ Pass
   pub stage : me.0.stage ≡ Idle
   pub slots : me.1 ≡ []
   pub alone : me.0.gathered ≡ []
+  pub tokens : Each (λ (x : ℕ × (ℕ × D)). InRange count x.1.0) me.0.mine
   pub plain : knows.0.device ≡ false
   pub handed : knows.0.handed ≡ []
   pub bare : knows.1 ≡ []
@@ -91,7 +96,7 @@ abbrev pub above_all : List (ℕ × ℕ) → ℕ
 above_all [] = 0
 above_all (x ∷ xs) = max (x.0 + 1) (above_all xs)
 
--- the device's seats between two calls: what it knows of the history begins the operations that it fetched, and it owes no wake
+-- the device's seats between two calls: what it knows of the history begins the operations that it fetched, and is all of them where no outcome is to come. It owes no wake
 pub record FitsDevice {S R D T B : Type 0} (key : Key B) (records : TableId) (count : ℕ) (me : Me S (View D (Key B))) (knows : Me R (Trail D T)) : Type 0 where
   pub keyed : me.0.key ≡ Some key
   pub tied : records ≡ key.records
@@ -103,6 +108,8 @@ pub record FitsDevice {S R D T B : Type 0} (key : Key B) (records : TableId) (co
   pub handed : knows.0.handed ≡ []
   pub bare : knows.1 ≡ []
   pub begins : StartsWith (ground_of me.0.fetched) knows.0.heard
+  pub ready : me.0.pending ≡ [] → knows.0.heard ≡ ground_of me.0.fetched
+  pub apart : Apart me.0.fetched
   pub floor : knows.0.floor ≡ above_all me.0.finished
   pub left : Each (IsLeft count me.0.finished me.0.pending) me.0.fetched
   pub paid : OwesNothing me.0
@@ -110,6 +117,10 @@ pub record FitsDevice {S R D T B : Type 0} (key : Key B) (records : TableId) (co
 -- nothing of a pass has changed but what it has looked at
 abbrev pub OnlyLooked : {D T B : Type 0} → PassValue D T B → PassValue D T B → Type 0
 OnlyLooked v w = w ≡ record v { clock = w.clock; looks = w.looks }
+
+-- the pass has looked more, and later
+abbrev pub Later : {D T B : Type 0} → PassValue D T B → PassValue D T B → Type 0
+Later v w = (v.clock ≤ w.clock) × StartsWith w.looks v.looks
 
 -- at a step of a call that brought the pass from v to w, it found n in the word k
 abbrev pub Saw : {D T B : Type 0} → PassValue D T B → PassValue D T B → ℕ → ℕ → Type 0

@@ -1,12 +1,11 @@
 //! The calls of a pass.
-ghost use Rattle.std.specs.Prelude.{◌≡◌, ℕ, ◌+◌, ◌*◌, ◌/◌, ◌%◌, ◌<◌, ◌≤◌, ◌⊎◌, [], ◌∷◌, ◌++◌, IfOk, IfErr, max, replicate, bit_and, bit_or, slice_index_or};
-ghost use Rattle.std.specs.Int.{bit_not, w64};
-ghost use Rattle.demi_port_core.specs.History.{Among, times};
+ghost use Rattle.std.specs.Prelude.{◌≡◌, ◌≢◌, ℕ, ◌+◌, ◌*◌, ◌/◌, ◌%◌, ◌<◌, ◌≤◌, ◌⊎◌, [], ◌∷◌, ◌++◌, IfOk, IfErr, max, replicate, bit_and, bit_or, slice_index_or};
+ghost use Rattle.demi_port_core.specs.History.{Among, Each, times};
 ghost use Rattle.demi_port_core.specs.Phases.{last_round};
 ghost use Rattle.demi_port_core.specs.Told.{clear};
 ghost use Rattle.demi_port_core.specs.Trails.{Behind};
 ghost use Rattle.demi_port.specs.Tries.{IfReady, IfNotYet, IfSpent, IfUnknown};
-ghost use Rattle.demi_port.specs.Seen.{OnlyLooked, Missed, Found, known_by};
+ghost use Rattle.demi_port.specs.Seen.{InRange, Later, Saw, OnlyLooked, Missed, Found, known_by};
 
 use crate::note::Note;
 use crate::pass::PortPass;
@@ -29,6 +28,9 @@ impl<L: Law> Port<L> {
         requires proper { L.proper self.now.key.base (L.said op) }
         ensures same { (pass.new.port ≡ pass.old.port) × (pass.new.number ≡ pass.old.number) }
         ensures ok { IfOk result (λ r. (pass.old.seen ≤ r.1.0) × (pass.new ≡ record pass.old { clock = pass.new.clock; looks = pass.new.looks; seen = r.1.0 + 1; submitted = pass.old.submitted ++ (r.1.0, (r.0.0, L.said op)) ∷ [] })) }
+        ensures token { IfOk result (λ r. InRange self.now.tokens.slots r.0.0) }
+        ensures fresh { IfOk result (λ r. Each (λ x. x.1.0 ≢ r.0.0) pass.old.submitted) }
+        ensures looks { Later pass.old pass.new }
         ensures full { IfErr result (λ e. (e.0 ≡ op) × OnlyLooked pass.old pass.new × ((i : ℕ) → i < self.now.tokens.slots → Missed pass.old pass.new i)) }
     {
         let (token, place) = match self.tables.submit(&mut pass.pair, op) {
@@ -45,9 +47,12 @@ impl<L: Law> Port<L> {
         ensures same { (pass.new.port ≡ pass.old.port) × (pass.new.number ≡ pass.old.number) }
         ensures ready { IfReady result (λ p out. L.admits self.now.key.base pass.new.heard pass.new.trail p out × (p < pass.new.floor)) }
         ensures redeemed { IfReady result (λ p _. pass.new ≡ record pass.old { clock = pass.new.clock; looks = pass.new.looks; redeemed = pass.old.redeemed ++ (p, token.0) ∷ []; owes = clear (token.0 % 1024) pass.old.owes; heard = pass.new.heard; trail = pass.new.trail; floor = pass.new.floor }) }
+        ensures done { IfReady result (λ _ _. Saw pass.old pass.new (token.0 % 1024 + 3) (token.0 / 1024 * 8 + 2)) }
         ensures own { IfReady result (λ p _. (q : ℕ) (d : L.Said) → Among (q, (token.0, d)) pass.old.submitted → q ≡ p) }
         ensures once { IfReady result (λ _ _. times token.0 pass.old.redeemed ≡ 0) }
+        ensures looks { Later pass.old pass.new }
         ensures grows { Behind (known_by pass.new) (known_by pass.old) }
+        ensures known { IfUnknown result (Each (λ x. x.1.0 ≢ token.0) pass.old.submitted) }
         ensures not_yet { IfNotYet result (Found pass.old pass.new token.0 (λ n. n ≡ token.0 / 1024 * 8 + 1)) }
         ensures spent { IfSpent result (Found pass.old pass.new token.0 (λ n. (token.0 / 1024 < n / 8) ⊎ (n ≡ token.0 / 1024 * 8 + 3))) }
         ensures unknown { IfUnknown result ((((self.now.tokens.slots ≤ token.0 % 1024) ⊎ (last_round ≤ token.0 / 1024)) × (pass.new ≡ pass.old)) ⊎ Found pass.old pass.new token.0 (λ n. (n / 8 < token.0 / 1024) ⊎ (n ≡ token.0 / 1024 * 8))) }
@@ -58,7 +63,7 @@ impl<L: Law> Port<L> {
     /// The waker bits of the mask that were set at this call's step, which are cleared. All others stay.
     pub fn scan(&self, pass: &mut PortPass<L>, mask: &Mask) -> Bits
         requires port { pass.old.port ≡ self.now }
-        ensures bits { (t : ℕ) × (n : ℕ) × (pass.old.clock ≤ t) × (result.words ≡ bit_and n (slice_index_or mask.now.words 0 0) ∷ replicate 15 0) × (pass.new ≡ record pass.old { clock = t + 1; looks = pass.old.looks ++ (t, (2, n)) ∷ []; owes = bit_or pass.old.owes (bit_and n (bit_not w64 (bit_not w64 (slice_index_or mask.now.words 0 0)))) }) }
+        ensures bits { (t : ℕ) × (n : ℕ) × (pass.old.clock ≤ t) × (result.words ≡ bit_and n (slice_index_or mask.now.words 0 0) ∷ replicate 15 0) × (pass.new ≡ record pass.old { clock = t + 1; looks = pass.old.looks ++ (t, (2, n)) ∷ []; owes = bit_or pass.old.owes (bit_and n (slice_index_or mask.now.words 0 0)) }) }
     {
         Bits::first_block(self.tables.scan(&mut pass.pair, mask.words[0]))
     }

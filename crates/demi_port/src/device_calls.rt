@@ -1,6 +1,7 @@
 //! The calls of a port's device.
 ghost use Rattle.std.specs.Prelude.{◌≡◌, ◌≢◌, ℕ, ◌+◌, ◌%◌, ◌/◌, ◌<◌, ◌≤◌, [], ◌∷◌, ◌++◌, length, replicate, bit_or};
 ghost use Rattle.std.specs.Int.{bit_at};
+ghost use Rattle.demi_port_core.specs.Bits.{has_bit};
 ghost use Rattle.demi_port_core.specs.History.{Among, Each, ground_of};
 ghost use Rattle.demi_port_core.specs.Phases.{last_round};
 ghost use Rattle.demi_port_core.specs.Told.{clear};
@@ -14,10 +15,11 @@ use std::sync::Wait;
 use std::thread::yield_now;
 
 impl<L: Law> Port<L> {
-    /// The indexes whose doorbell bit was set at this call's step. The bits are cleared, and the device owes a fetch of each.
+    /// The indexes whose doorbell bit was set at this call's step, each a token's. The bits are cleared, and the device owes a fetch of each.
     pub fn take(&self, seat: &mut DeviceSeat<L>) -> Bits
         requires port { seat.old.port ≡ self.now }
         ensures bells { (t : ℕ) × (n : ℕ) × (seat.old.clock ≤ t) × (result.words ≡ n ∷ replicate 15 0) × (seat.new ≡ record seat.old { clock = t + 1; looks = seat.old.looks ++ (t, (1, n)) ∷ []; rang = bit_or seat.old.rang n }) }
+        ensures tokens { (i : ℕ) → has_bit result.words i ≡ 1 → i < self.now.tokens.slots }
     {
         Bits::first_block(self.tables.take(&mut seat.pair))
     }

@@ -4,7 +4,7 @@ ghost use mathlib.Core.Option.{some};
 ghost use lib.ListN.{get_elem?};
 ghost use Rattle.demi_port_core.specs.History.{AnyOf, Each, ground_of, of_pass, times, total};
 ghost use Rattle.demi_port_core.specs.Entries.{IsRedeemed};
-ghost use Rattle.demi_port_core.specs.Trails.{Behind, StartsWith};
+ghost use Rattle.demi_port_core.specs.Trails.{Behind};
 ghost use Rattle.demi_port.specs.Seen.{known_at, known_by, says};
 
 use crate::device_seat::DeviceSeat;
@@ -66,8 +66,9 @@ impl<L: Law> Port<L> {
         ensures redeemed { Each (λ p. Each (IsRedeemed result.history) p.redeemed) passes.items }
         ensures once { (t : ℕ) → total (λ p. times t p.redeemed) passes.items ≤ 1 }
         ensures trail { result.trail ≡ seat.trail }
-        ensures fetched { StartsWith (says result.history) (ground_of seat.fetched) }
-        ensures heard { StartsWith (says result.history) result.heard }
+        ensures counted { length seat.fetched ≡ length result.history }
+        ensures grounded { ground_of seat.fetched ≡ says result.history }
+        ensures heard { result.heard ≡ says result.history }
         ensures behind { Each (λ p. Behind (known_at result) (known_by p)) passes.items }
     {
         let (pair, key) = seat.into_parts();

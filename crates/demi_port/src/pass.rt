@@ -20,12 +20,12 @@ impl<L: Law> Model for PortPass<L> {
 
     ghost view = { λ p. pass_value p.pair.seat.table_id p.key p.pair.seat.me.0 p.pair.record.me.0 };
 
-    ghost invariant = { λ p. FitsPass p.key p.pair.record.table_id p.pair.seat.me p.pair.record.me };
+    ghost invariant = { λ p. FitsPass p.key p.pair.record.table_id p.pair.seat.table_id.slots p.pair.seat.me p.pair.record.me };
 }
 
 impl<L: Law> PortPass<L> {
     pub(crate) fn into_pair(self) -> SeatPair<L>
-        ensures fits { FitsPass self.port.key result.record.table_id result.seat.me result.record.me }
+        ensures fits { FitsPass self.port.key result.record.table_id result.seat.table_id.slots result.seat.me result.record.me }
         ensures value { pass_value result.seat.table_id self.port.key result.seat.me.0 result.record.me.0 ≡ self }
     {
         let Self { pair, key: _ } = self;

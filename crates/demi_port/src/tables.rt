@@ -26,7 +26,7 @@ pub(crate) struct Tables<L: Law> {
     >,
     pub(crate) records: Table<(), Trail<L::Said, L::Told>, (), Records, Global>,
     pub(crate) count: u32,
-    ghost sized: { (table.shared.table_id.words ≡ count + 3) × (table.shared.table_id.slots ≡ count) × (count ≤ 64) },
+    ghost sized: { (table.shared.table_id.words ≡ count + 3) × (table.shared.table_id.slots ≡ count) × (count ≤ 64) × (1 ≤ count) },
     ghost one_word: { (records.shared.table_id.words ≡ 1) × (records.shared.table_id.slots ≡ 0) },
     ghost tied: { table.shared.key.records ≡ records.shared.table_id } by { Coded-set table_id_coded table.shared.key.records records.shared.table_id },
 }

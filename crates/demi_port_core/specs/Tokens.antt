@@ -45,11 +45,12 @@ pub record CellOk {O U B D : Type 0} (said : O → D) (answers : List (ℕ × (�
   pub rings : bit_at (slice_index_or words 1 0) i ≡ bell c.1
   pub phase : InPhase said answers log homes i c.0 c.1
 
--- the ticket is the length of the history, which is the sum of what the tokens drew
+-- the ticket is the length of the history, which is the sum of what the tokens drew, and only tokens have doorbell bits
 pub record CellsOk {O U B D : Type 0} (said : O → D) (answers : List (ℕ × (ℕ × D)) → ℕ → U → B → Type 0) (log : List (ℕ × (ℕ × D))) (words : List ℕ) (homes : List (maybe.Option (Option (Slip O U B)))) (cells : List Cell) : Type 0 where
   pub few : length homes ≤ 64
   pub wide : length words ≡ length homes + 3
   pub as_many : length cells ≡ length homes
   pub ticket : slice_index_or words 0 0 ≡ length log
   pub counted : total draw_count cells ≡ length log
+  pub bells : (i : ℕ) → length homes ≤ i → bit_at (slice_index_or words 1 0) i ≡ 0
   pub each_cell : (i : ℕ) (c : Cell) → get_elem? cells i ≡ some c → CellOk said answers log words homes i c

@@ -1,4 +1,6 @@
-use Rattle.std.proofs.Common.{rules, ℕ, ◌<◌, ◌≤◌, ◌∙◌, arith}
+use Rattle.std.proofs.Common.{rules, ℕ, ◌<◌, ◌≤◌, List, ap, sym, subst, ◌∙◌, arith}
+use Rattle.demi_port_core.specs.History.{Among}
+use Rattle.demi_port_core.specs.Phases.{token_of}
 use Rattle.demi_port_core.proofs.Sights.{later_more, missed_next}
 use Rattle.demi_port.proofs.tables.Tables.submit.Goals as goal
 
@@ -18,3 +20,8 @@ loop-index-preserved g c = let v = c.loop-index.invariant in let lost = c.in_def
   missed = missed_next _ _ _ _ v.later lost.0 lost.1 v.missed;
   slip = search rules;
 }
+
+pub returns-in-Some-clause-fresh : goal.returns-in-Some-clause-fresh
+returns-in-Some-clause-fresh g c q d among = let inv = c.loop-index.invariant in let won = c.in-Some.ensures.won c.args.op inv.slip in let is = won.2 in let D = g.row.L-Said.Denot in
+    let mine = ap (λ v. v.mine) is ∙ ap (λ v. v.mine) won.1.0 ∙ ap (λ v. v.mine) inv.later.0 in
+    c.draw-place.ensures.fresh q d (subst (λ (z : (ℕ × ℕ) × List (ℕ × (ℕ × D))). Among (q, (token_of z.0.0 z.0.1, d)) z.1) (λ k. ((ap (λ v. v.round) (sym is) k, ap (λ v. v.index) (sym is) k), sym mine k)) among)
