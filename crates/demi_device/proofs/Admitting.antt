@@ -1,9 +1,9 @@
 -- What was admitted stays so as further outcomes come.
-use Rattle.std.proofs.Common.{◌≡◌, ℕ, ◌+◌, ◌<◌, ◌≤◌, List, [], ◌∷◌, ◌++◌, sym, ap, subst, ◌∙◌, max, arith, append_assoc, append-nil}
+use Rattle.std.proofs.Common.{ℕ, ◌<◌, ◌≤◌, List, [], ◌∷◌, ◌++◌, sym, subst, arith, append_assoc, append-nil}
 use Rattle.std.specs.Prelude.{Option, Some, None}
 use Rattle.demi_port_core.specs.History.{AllAbove, Each}
 use Rattle.demi_port_core.specs.Trails.{MayTell, told_at}
-use Rattle.demi_port_core.proofs.Lists.{each_more, each_snoc}
+use Rattle.demi_port_core.proofs.Lists.{each_snoc}
 use Rattle.demi_device.specs.Serving.{AllAdmitted, AllCome, above, places, trail}
 use Rattle.demi_device.proofs.Outcomes.{places_append}
 

@@ -1,10 +1,10 @@
 -- Nothing is taken back over a take, a serve, or several of them.
-use Rattle.std.proofs.Common.{◌≡◌, ℕ, ◌+◌, ◌≤◌, List, [], ◌∷◌, ◌++◌, sym, ap, ◌∙◌, refl, subst, arith, append-nil}
+use Rattle.std.proofs.Common.{◌≡◌, ℕ, ◌≤◌, List, [], ◌∷◌, sym, ap, ◌∙◌, refl, arith, append-nil}
 use Rattle.demi_port.specs.Seen.{DeviceValue}
 use Rattle.demi_port_core.specs.Trails.{StartsWith}
 use Rattle.demi_port.proofs.Devices.{starts_more}
 use Rattle.demi_device.specs.Holding.{TookIn}
-use Rattle.demi_device.specs.Turning.{Grows, LastFound, LookedLast, WasQuiet}
+use Rattle.demi_device.specs.Turning.{Grows, LastFound, LookedLast}
 
 pub starts_same : {A : Type 0} (xs ys : List A) → xs ≡ ys → StartsWith xs ys
 starts_same xs ys e = ([], e ∙ sym (append-nil ys))
@@ -13,7 +13,6 @@ module _ {D T U B : Type 0} where
   -- nothing but what was finished and told has changed
   pub grows_served : (f f' : List (ℕ × U)) (v w : DeviceValue D T B) → w ≡ record v { finished = w.finished; trail = w.trail; owes = w.owes } → StartsWith f' f → StartsWith w.finished v.finished → StartsWith w.trail v.trail → Grows f f' v w
   grows_served f f' v w e outcomes finished trail = record {
-    port = (ap (λ z. z.port) e, ap (λ z. z.passes) e);
     clock = let k = ap (λ z. z.clock) e in omega arith;
     looks = starts_same w.looks v.looks (ap (λ z. z.looks) e);
     fetched = starts_same w.fetched v.fetched (ap (λ z. z.fetched) e);
@@ -27,7 +26,6 @@ module _ {D T U B : Type 0} where
 
   pub grows_took : (f : List (ℕ × U)) (v w : DeviceValue D T B) → TookIn v w → Grows f f v w
   grows_took f v w took = let e = took.4 in record {
-    port = (ap (λ z. z.port) e, ap (λ z. z.passes) e);
     clock = let k = ap (λ z. z.clock) e in let le = took.3 in omega arith;
     looks = (((took.0, (1, took.1)) ∷ []), ap (λ z. z.looks) e);
     fetched = (took.2, ap (λ z. z.fetched) e);
@@ -38,7 +36,6 @@ module _ {D T U B : Type 0} where
 
   pub grows_on : (f f' f'' : List (ℕ × U)) (u v w : DeviceValue D T B) → Grows f f' u v → Grows f' f'' v w → Grows f f'' u w
   grows_on f f' f'' u v w a b = record {
-    port = (b.port.0 ∙ a.port.0, b.port.1 ∙ a.port.1);
     clock = let x = a.clock in let y = b.clock in omega arith;
     looks = starts_more _ _ _ b.looks a.looks;
     fetched = starts_more _ _ _ b.fetched a.fetched;

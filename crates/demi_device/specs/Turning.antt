@@ -57,9 +57,8 @@ pub record Agrees {D T U B : Type 0} (told : U → Option T) (admits : List D �
   pub rises : RiseFrom 0 seat.trail
 
 -- Between v and w nothing was taken back: what the engine finished, and what the seat looked at, fetched, finished and told, has
--- grown at its end, and the port is the same.
+-- grown at its end.
 pub record Grows {D T U B : Type 0} (before after : List (ℕ × U)) (v w : DeviceValue D T B) : Type 0 where
-  pub port : (w.port ≡ v.port) × (w.passes ≡ v.passes)
   pub clock : v.clock ≤ w.clock
   pub looks : StartsWith w.looks v.looks
   pub fetched : StartsWith w.fetched v.fetched

@@ -84,6 +84,7 @@ impl<E: Engine> Device<E> {
         requires port { self.old.seat.port ≡ port.now }
         ensures goes { E.goes self.old.engine self.new.engine }
         ensures engine { (E.base self.new.engine ≡ E.base self.old.engine) × (E.room self.new.engine ≡ E.room self.old.engine) }
+        ensures port { (self.new.seat.port ≡ self.old.seat.port) × (self.new.seat.passes ≡ self.old.seat.passes) }
         ensures served { GoesOn (served_by result) (E.served self.old.engine) (E.served self.new.engine) }
         ensures some { IfServed result (λ n. 1 ≤ n) }
         ensures looked { LookedLast self.old.seat self.new.seat }
@@ -125,6 +126,7 @@ impl<E: Engine> Device<E> {
         requires port { self.old.seat.port ≡ port.now }
         ensures goes { E.goes self.old.engine self.new.engine }
         ensures engine { (E.base self.new.engine ≡ E.base self.old.engine) × (E.room self.new.engine ≡ E.room self.old.engine) }
+        ensures port { (self.new.seat.port ≡ self.old.seat.port) × (self.new.seat.passes ≡ self.old.seat.passes) }
         ensures served { StartsWith (E.served self.new.engine) (E.served self.old.engine) }
         ensures quiet { WasQuiet self.old.seat self.new.seat }
         ensures over { IsOver E.L.stops (E.served self.new.engine) self.new.seat }

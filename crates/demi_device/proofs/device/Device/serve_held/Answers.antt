@@ -1,4 +1,4 @@
-use Rattle.std.proofs.Common.{◌≡◌, ℕ, ◌+◌, ◌-◌, ◌≤◌, [], ◌∷◌, ◌++◌, length, refl, ap, ◌∙◌, arith, length-append}
+use Rattle.std.proofs.Common.{[], ◌∷◌, length, refl, ap, ◌∙◌, arith, length-append}
 use Rattle.demi_port.proofs.Devices.{starts_more}
 use Rattle.demi_device.proofs.Growing.{grows_on}
 use Rattle.demi_device.proofs.device.Device.serve_held.Goals as goal

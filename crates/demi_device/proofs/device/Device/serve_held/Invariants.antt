@@ -1,6 +1,5 @@
-use Rattle.std.proofs.Common.{◌≡◌, ◌-◌, ◌<◌, length}
+use Rattle.std.proofs.Common.{◌≡◌, ◌-◌, length}
 use Rattle.demi_port_core.specs.Trails.{StartsWith}
-use Rattle.demi_device.specs.Holding.{Serves}
 use Rattle.demi_device.specs.Turning.{Grows}
 use Rattle.demi_device.proofs.device.Device.serve_held.Given as goal
 
