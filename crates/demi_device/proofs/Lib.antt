@@ -1,7 +1,10 @@
+pub mod Admitting
 pub mod Bells
 pub mod Doubling
 pub mod Gapless
+pub mod Growing
 pub mod Outcomes
 pub mod Ring
+pub mod Rising
 pub mod Serve
 pub mod Taking

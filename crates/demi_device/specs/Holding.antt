@@ -7,7 +7,7 @@ use Rattle.demi_port_core.specs.Told.{clear}
 use Rattle.demi_port_core.specs.declared.place.Place.{Place}
 use Rattle.demi_port_core.specs.declared.place.Token.{Token}
 use Rattle.demi_device.specs.declared.early.Early.{Early}
-use Rattle.demi_device.specs.Serving.{EachMayPend, HasStop, NonePends, places, trail}
+use Rattle.demi_device.specs.Serving.{AllAdmitted, EachMayPend, HasStop, NonePends, RiseFrom, places, trail}
 use Rattle.demi_device.specs.Turning.{NoBell}
 
 -- the port's seat, and how many operations were given to the engine
@@ -79,7 +79,7 @@ pub record Holds {O D : Type 0} (said : O → D) (proper : D → Type 0) (c n at
 
 -- The engine was served the port's history, operation by operation, and the seat finished what the engine finished, each once.
 -- No doorbell that was taken is left, each operation that is not finished may pend, and none pends after a stop.
-pub record Serves {D T U B : Type 0} (told : U → Option T) (may_pend : List D → ℕ → Type 0) (stops : D → Bool) (base : B) (room given : ℕ) (served : List D) (finished : List (ℕ × U)) (seat : DeviceValue D T B) : Type 0 where
+pub record Serves {D T U B : Type 0} (told : U → Option T) (admits : B → List D → List (ℕ × T) → ℕ → U → Type 0) (may_pend : List D → ℕ → Type 0) (stops : D → Bool) (base : B) (room given : ℕ) (served : List D) (finished : List (ℕ × U)) (seat : DeviceValue D T B) : Type 0 where
   pub same_base : base ≡ seat.port.key.base
   pub enough : seat.port.tokens.slots ≤ room
   pub all_given : given ≡ length served
@@ -87,6 +87,8 @@ pub record Serves {D T U B : Type 0} (told : U → Option T) (may_pend : List D 
   pub same_places : places seat.finished ≡ places finished
   pub once : Apart seat.finished
   pub same_trail : seat.trail ≡ trail told finished
+  pub rises : RiseFrom 0 (trail told finished)
   pub cleared : NoBell seat.port.tokens.slots seat.rang
+  pub admitted : AllAdmitted (length served) (admits base served) (trail told finished) finished
   pub pends : EachMayPend (may_pend served) (length served) (places finished)
   pub ends : HasStop stops served → NonePends (length served) (places finished)

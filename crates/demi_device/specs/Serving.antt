@@ -1,5 +1,5 @@
 -- What an engine does with the operations that it is served.
-use Rattle.std.specs.Prelude.{◌≢◌, ℕ, ◌+◌, ◌<◌, List, [], ◌∷◌, ◌++◌, Option, Some, None, Bool, cond, map, max}
+use Rattle.std.specs.Prelude.{◌≢◌, ℕ, ◌+◌, ◌<◌, ◌≤◌, List, [], ◌∷◌, ◌++◌, Option, Some, None, Bool, cond, map, max}
 use Rattle.demi_port_core.specs.History.{Each}
 use Rattle.demi_port_core.specs.Trails.{MayTell, told_at}
 use Rattle.demi_port_core.specs.declared.place.Place.{Place}
@@ -22,6 +22,11 @@ abbrev pub trail : {T U : Type 0} → (U → Option T) → List (ℕ × U) → L
 trail told [] = []
 trail told (o ∷ os) = told_at o.0 (told o.1) ++ trail told os
 
+-- the places rise, from n on
+abbrev pub RiseFrom : {T : Type 0} → ℕ → List (ℕ × T) → Type 0
+RiseFrom n [] = Unit {0}
+RiseFrom n (t ∷ ts) = (n ≤ t.0) × RiseFrom (t.0 + 1) ts
+
 -- one more than the greatest of the places
 abbrev pub above : List ℕ → ℕ
 above [] = 0
@@ -39,6 +44,10 @@ pub record Comes {T U : Type 0} (n : ℕ) (told : U → Option T) (admits : List
 abbrev pub AllCome : {T U : Type 0} → ℕ → (U → Option T) → (List (ℕ × T) → ℕ → U → Type 0) → List (ℕ × T) → List ℕ → List (ℕ × U) → Type 0
 AllCome n told admits t before [] = Unit {0}
 AllCome n told admits t before (o ∷ os) = Comes n told admits t before o × AllCome n told admits (t ++ told_at o.0 (told o.1)) (before ++ o.0 ∷ []) os
+
+-- each outcome is of one of n operations, and is admitted by what was told
+abbrev pub AllAdmitted : {T U : Type 0} → ℕ → (List (ℕ × T) → ℕ → U → Type 0) → List (ℕ × T) → List (ℕ × U) → Type 0
+AllAdmitted {T} {U} n admits t l = Each (λ (o : ℕ × U). (o.0 < n) × admits t o.0 o.1) l
 
 -- each of n operations that is not finished may pend
 abbrev pub EachMayPend : (ℕ → Type 0) → ℕ → List ℕ → Type 0

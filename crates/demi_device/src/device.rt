@@ -1,9 +1,7 @@
 //! An engine at a port.
 ghost use Rattle.std.specs.Prelude.{◌≡◌, ◌≤◌, [], IfErr, IfOk, is_ok, length};
-ghost use Rattle.demi_port_core.specs.History.{Apart, ground_of};
-ghost use Rattle.demi_port_core.specs.Trails.{StartsWith};
-ghost use Rattle.demi_device.specs.Turning.{IsFresh, IsOver};
-ghost use Rattle.demi_device.specs.Serving.{NonePends, places, trail};
+ghost use Rattle.demi_device.specs.Turning.{Agrees, IsFresh};
+ghost use Rattle.demi_device.specs.Serving.{HasStop, NonePends, places};
 
 use crate::done::Done;
 use crate::engine::Engine;
@@ -30,7 +28,7 @@ impl<E: Engine> Model for Device<E> {
 
     ghost view = { λ d. record { engine = d.engine; seat = d.inbox.seat } };
 
-    ghost invariant = { λ d. (d.done.added ≡ []) × (d.done.room ≡ d.inbox.seat.port.tokens.slots) × Serves E.L.told E.L.may_pend E.L.stops (E.base d.engine) (E.room d.engine) d.inbox.given (E.served d.engine) (E.finished d.engine) d.inbox.seat };
+    ghost invariant = { λ d. (d.done.added ≡ []) × (d.done.room ≡ d.inbox.seat.port.tokens.slots) × Serves E.L.told E.L.admits E.L.may_pend E.L.stops (E.base d.engine) (E.room d.engine) d.inbox.given (E.served d.engine) (E.finished d.engine) d.inbox.seat };
 }
 
 impl<E: Engine> Device<E> {
@@ -78,16 +76,13 @@ impl<E: Engine> Device<E> {
         self.engine.tend(rt)
     }
 
-    /// The engine and the seat, after a turn that ended: a stop was served, and each operation that was fetched was served.
+    /// The engine and the seat, where each operation that was fetched was served: after a turn that ended, and before the first.
     pub fn parts(self) -> (E, DeviceSeat<E::L>)
-        requires { IsOver E.L.stops (E.served self.engine) self.seat }
+        requires { length self.seat.fetched ≡ length (E.served self.engine) }
         ensures engine { result.0 ≡ self.engine }
         ensures seat { result.1 ≡ self.seat }
-        ensures begins { StartsWith (ground_of result.1.fetched) (E.served result.0) }
-        ensures finished { places result.1.finished ≡ places (E.finished result.0) }
-        ensures once { Apart result.1.finished }
-        ensures trail { result.1.trail ≡ trail E.L.told (E.finished result.0) }
-        ensures all { NonePends (length (E.served result.0)) (places (E.finished result.0)) }
+        ensures agrees { Agrees E.L.told (E.L.admits (E.base result.0)) (E.served result.0) (E.finished result.0) result.1 }
+        ensures ends { HasStop E.L.stops (E.served result.0) → NonePends (length (E.served result.0)) (places (E.finished result.0)) }
     {
         let Device {
             engine,

@@ -4,7 +4,7 @@ ghost use mathlib.Core.Option.{some};
 ghost use lib.ListN.{get_elem?};
 ghost use Rattle.demi_port.specs.Seen.{above_all};
 ghost use Rattle.demi_port_core.specs.History.{AnyOf, Apart, Each, ground_of};
-ghost use Rattle.demi_port_core.specs.Trails.{MayTell, told_at};
+ghost use Rattle.demi_port_core.specs.Trails.{MayTell, StartsWith, told_at};
 ghost use Rattle.demi_device.specs.Holding.{OnlyFinished, TakenOut};
 ghost use Rattle.demi_device.specs.Serving.{AllCome, places, trail};
 
@@ -19,6 +19,7 @@ impl<L: Law> Inbox<L> {
     pub(crate) fn next(&mut self) -> Option<(Place, L::Op)>
         ensures seat { self.new.seat ≡ self.old.seat }
         ensures next { IfSome result (λ r. (r.0.0 ≡ self.old.given) × (self.new.given ≡ self.old.given + 1) × (get_elem? (ground_of self.old.seat.fetched) self.old.given ≡ some (L.said r.1))) }
+        ensures held { IfSome result (λ _. self.old.given < length self.old.seat.fetched) }
         ensures proper { IfSome result (λ r. L.proper self.old.seat.port.key.base (L.said r.1)) }
         ensures room { IfSome result (λ _. self.old.given < length self.old.seat.finished + self.old.seat.port.tokens.slots) }
         ensures none { IfNone result (Each (λ x. x.0 ≢ self.old.given) self.old.seat.fetched × (self.new.given ≡ self.old.given)) }
@@ -61,6 +62,7 @@ impl<L: Law> Inbox<L> {
         ensures given { self.new.given ≡ self.old.given }
         ensures seat { self.new.seat ≡ record self.old.seat { finished = self.new.seat.finished; trail = self.old.seat.trail ++ trail L.told done.old.added; owes = self.new.seat.owes } }
         ensures finished { places self.new.seat.finished ≡ places self.old.seat.finished ++ places done.old.added }
+        ensures grows { StartsWith self.new.seat.finished self.old.seat.finished }
         ensures once { Apart self.new.seat.finished }
         ensures done { (done.new.added ≡ []) × (done.new.room ≡ done.old.room) }
     {

@@ -1,5 +1,5 @@
 //! What a device holds of its port.
-ghost use Rattle.std.specs.Prelude.{◌≡◌, ℕ, IfOk, IfErr, IsTrue, None, Some, length, replicate, slice_index_or};
+ghost use Rattle.std.specs.Prelude.{◌≡◌, ℕ, ◌+◌, IfOk, IfErr, IsTrue, None, Some, length, replicate, slice_index_or};
 ghost use mathlib.Core.Logic.{◌↔◌};
 ghost use Rattle.demi_device.specs.Turning.{IsFresh};
 ghost use Rattle.demi_device.specs.declared.early.Early.{Early};
@@ -59,6 +59,13 @@ impl<L: Law> Inbox<L> {
             at: 0,
             early: 0,
         })
+    }
+
+    /// How many operations were fetched and not given to the engine.
+    pub(crate) fn waiting(&self) -> u32
+        ensures { self.now.given + result ≡ length self.now.seat.fetched }
+    {
+        self.early
     }
 
     /// Whether each operation that was fetched was given to the engine.

@@ -15,6 +15,12 @@ impl<T> Model for Mark<T> {
     ghost also_owns = { λ _. ftrue };
 }
 
+// It holds nothing at run time.
+unsafe impl<T> Send for Mark<T> {}
+
+// Nor is there anything to share.
+unsafe impl<T> Sync for Mark<T> {}
+
 impl<T> Mark<T> {
     fn of() -> Mark<T>
         ghost known: { T }

@@ -1,4 +1,5 @@
 mod doubler;
+mod threads;
 
 ghost use Rattle.std.specs.Prelude.{◌≡◌, ℕ, ◌+◌, ◌<◌, length};
 ghost use Rattle.demi_port_core.specs.History.{AnyOf, Each, total};
@@ -40,6 +41,14 @@ fn answer(
     }
 }
 
+// One turn, of which the tests need to know no more than that the port stays.
+fn turn(device: &mut Device<Doubler>, port: &Port<UntilZero>) -> Turn
+    requires { device.old.seat.port ≡ port.now }
+    ensures { (device.new.seat.port ≡ device.old.seat.port) × (device.new.seat.passes ≡ device.old.seat.passes) }
+{
+    device.turn(port)
+}
+
 // The last turn, and the close. It tells how many places were drawn.
 fn end(
     rt: &impl Abort,
@@ -68,13 +77,13 @@ fn operations_are_served_in_order_until_a_stop(rt: HostRuntime) -> Result<(), Fa
         panic!(rt; "no memory");
     };
     let pass = &mut passes[0];
-    let none = device.turn(&port);
+    let none = turn(&mut device, &port);
     let first = ask(&rt, &port, pass, 7);
     let second = ask(&rt, &port, pass, 8);
-    let two = device.turn(&port);
+    let two = turn(&mut device, &port);
     let tended = device.tend(&rt);
     let stop = ask(&rt, &port, pass, 0);
-    let one = device.turn(&port);
+    let one = turn(&mut device, &port);
     let outs = [
         answer(&rt, &port, pass, first),
         answer(&rt, &port, pass, second),
@@ -102,16 +111,16 @@ fn an_operation_that_came_early_is_kept(rt: HostRuntime) -> Result<(), Fail> {
     let pass = &mut passes[0];
     let first = ask(&rt, &port, pass, 1);
     let second = ask(&rt, &port, pass, 2);
-    let _two = device.turn(&port);
+    let _two = turn(&mut device, &port);
     let two = answer(&rt, &port, pass, second);
     let third = ask(&rt, &port, pass, 3);
     let one = answer(&rt, &port, pass, first);
     let fourth = ask(&rt, &port, pass, 4);
-    let both = device.turn(&port);
+    let both = turn(&mut device, &port);
     let three = answer(&rt, &port, pass, third);
     let four = answer(&rt, &port, pass, fourth);
     let stop = ask(&rt, &port, pass, 0);
-    let _one = device.turn(&port);
+    let _one = turn(&mut device, &port);
     let zero = answer(&rt, &port, pass, stop);
     let tickets = end(&rt, port, device, passes);
     assert_eq!(rt; both, Turn::Served(2));

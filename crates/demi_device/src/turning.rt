@@ -1,11 +1,10 @@
 //! A turn of a device.
 ghost use Rattle.std.specs.Prelude.{◌≡◌, ◌≢◌, ◌+◌, ◌<◌, ◌≤◌, ◌++◌, List, [], ◌∷◌, IsTrue, false, true, length};
 ghost use mathlib.Core.Logic.{◌↔◌};
-ghost use Rattle.demi_port_core.specs.History.{Apart, Each, ground_of};
 ghost use Rattle.demi_port_core.specs.Trails.{StartsWith};
 ghost use Rattle.demi_device.specs.Holding.{Serves, TookIn};
-ghost use Rattle.demi_device.specs.Turning.{GoesOn, IsAtHand, IfEnded, IfIdle, IfServed, IsOver, NoBell, WasQuiet, served_by};
-ghost use Rattle.demi_device.specs.Serving.{EachMayPend, HasStop, NonePends, places, trail};
+ghost use Rattle.demi_device.specs.Turning.{Agrees, GoesOn, Grows, IsAtHand, IfEnded, IfIdle, IfServed, IsOver, LookedLast, NoBell, WasQuiet, served_by};
+ghost use Rattle.demi_device.specs.Serving.{EachMayPend, HasStop, NonePends, places};
 
 use crate::device::Device;
 use crate::engine::Engine;
@@ -25,15 +24,23 @@ impl<E: Engine> Device<E> {
         self.inbox.take_in(port)
     }
 
+    // How many operations were fetched and not served.
+    fn waiting(&self) -> u32
+        ensures { length (E.served self.now.engine) + result ≡ length self.now.seat.fetched }
+    {
+        self.inbox.waiting()
+    }
+
     // Serves the operation of the next place if it is there, and finishes what the engine added.
     fn serve_next(&mut self, port: &Port<E::L>) -> bool
         requires port { self.old.seat.port ≡ port.now }
         ensures goes { E.goes self.old.engine self.new.engine }
         ensures engine { (E.base self.new.engine ≡ E.base self.old.engine) × (E.room self.new.engine ≡ E.room self.old.engine) }
         ensures seat { self.new.seat ≡ record self.old.seat { finished = self.new.seat.finished; trail = self.new.seat.trail; owes = self.new.seat.owes } }
-        ensures some { result ≡ true → (d : E.L.Said) × (E.served self.new.engine ≡ E.served self.old.engine ++ d ∷ []) }
+        ensures grows { Grows (E.finished self.old.engine) (E.finished self.new.engine) self.old.seat self.new.seat }
+        ensures some { result ≡ true → (length (E.served self.old.engine) < length self.old.seat.fetched) × ((d : E.L.Said) × (E.served self.new.engine ≡ E.served self.old.engine ++ d ∷ [])) }
         ensures none { result ≡ false → (self.new ≡ self.old) × (IsAtHand (length (E.served self.new.engine)) self.new.seat → ⊥) }
-        ensures serves { Serves E.L.told E.L.may_pend E.L.stops (E.base self.new.engine) (E.room self.new.engine) (length (E.served self.new.engine)) (E.served self.new.engine) (E.finished self.new.engine) self.new.seat }
+        ensures serves { Serves E.L.told E.L.admits E.L.may_pend E.L.stops (E.base self.new.engine) (E.room self.new.engine) (length (E.served self.new.engine)) (E.served self.new.engine) (E.finished self.new.engine) self.new.seat }
     {
         let Some((place, op)) = self.inbox.next() else {
             return false;
@@ -49,16 +56,15 @@ impl<E: Engine> Device<E> {
         ensures goes { E.goes self.old.engine self.new.engine }
         ensures engine { (E.base self.new.engine ≡ E.base self.old.engine) × (E.room self.new.engine ≡ E.room self.old.engine) }
         ensures seat { self.new.seat ≡ record self.old.seat { finished = self.new.seat.finished; trail = self.new.seat.trail; owes = self.new.seat.owes } }
+        ensures grows { Grows (E.finished self.old.engine) (E.finished self.new.engine) self.old.seat self.new.seat }
         ensures served { GoesOn result (E.served self.old.engine) (E.served self.new.engine) }
-        ensures none { result ≡ 0 → (self.new ≡ self.old) × (IsAtHand (length (E.served self.new.engine)) self.new.seat → ⊥) }
-        ensures serves { Serves E.L.told E.L.may_pend E.L.stops (E.base self.new.engine) (E.room self.new.engine) (length (E.served self.new.engine)) (E.served self.new.engine) (E.finished self.new.engine) self.new.seat }
+        ensures all_served { IsAtHand (length (E.served self.new.engine)) self.new.seat → ⊥ }
+        ensures none { result ≡ 0 → self.new ≡ self.old }
+        ensures serves { Serves E.L.told E.L.admits E.L.may_pend E.L.stops (E.base self.new.engine) (E.room self.new.engine) (length (E.served self.new.engine)) (E.served self.new.engine) (E.finished self.new.engine) self.new.seat }
     {
-        for served in 0..u32::MAX {
-            if !self.serve_next(port) {
-                return served;
-            }
-        }
-        u32::MAX
+        let before = self.waiting();
+        while self.serve_next(port) {}
+        before - self.waiting()
     }
 
     // Whether a stop was served and each operation that was fetched was served.
@@ -71,8 +77,9 @@ impl<E: Engine> Device<E> {
         }
     }
 
-    /// Takes the operations that rang, keeps those that came early, serves those whose place is next, and finishes what the
-    /// engine added. It waits for nothing and takes no memory.
+    /// Takes the doorbells, fetches what rang, keeps what came early, serves each operation whose place is next, and finishes what
+    /// the engine added. After it the operation of the next place is not there: all that was fetched without a gap is served.
+    /// It waits for nothing and takes no memory.
     pub fn turn(&mut self, port: &Port<E::L>) -> Turn
         requires port { self.old.seat.port ≡ port.now }
         ensures goes { E.goes self.old.engine self.new.engine }
@@ -80,16 +87,15 @@ impl<E: Engine> Device<E> {
         ensures port { (self.new.seat.port ≡ self.old.seat.port) × (self.new.seat.passes ≡ self.old.seat.passes) }
         ensures served { GoesOn (served_by result) (E.served self.old.engine) (E.served self.new.engine) }
         ensures some { IfServed result (λ n. 1 ≤ n) }
-        ensures fetched { StartsWith self.new.seat.fetched self.old.seat.fetched }
+        ensures looked { LookedLast self.old.seat self.new.seat }
         ensures taken { NoBell port.now.tokens.slots self.new.seat.rang }
-        ensures begins { StartsWith (ground_of self.new.seat.fetched) (E.served self.new.engine) }
-        ensures finished { places self.new.seat.finished ≡ places (E.finished self.new.engine) }
-        ensures once { Apart self.new.seat.finished }
-        ensures trail { self.new.seat.trail ≡ trail E.L.told (E.finished self.new.engine) }
+        ensures all_served { IsAtHand (length (E.served self.new.engine)) self.new.seat → ⊥ }
+        ensures grows { Grows (E.finished self.old.engine) (E.finished self.new.engine) self.old.seat self.new.seat }
+        ensures agrees { Agrees E.L.told (E.L.admits (E.base self.new.engine)) (E.served self.new.engine) (E.finished self.new.engine) self.new.seat }
         ensures pends { EachMayPend (E.L.may_pend (E.served self.new.engine)) (length (E.served self.new.engine)) (places (E.finished self.new.engine)) }
         ensures ends { HasStop E.L.stops (E.served self.new.engine) → NonePends (length (E.served self.new.engine)) (places (E.finished self.new.engine)) }
-        ensures idle { IfIdle result (WasQuiet self.old.seat self.new.seat × (IsAtHand (length (E.served self.new.engine)) self.new.seat → ⊥) × (IsOver E.L.stops (E.served self.new.engine) self.new.seat → ⊥)) }
-        ensures ended { IfEnded result (WasQuiet self.old.seat self.new.seat × (IsAtHand (length (E.served self.new.engine)) self.new.seat → ⊥) × IsOver E.L.stops (E.served self.new.engine) self.new.seat) }
+        ensures idle { IfIdle result (WasQuiet self.old.seat self.new.seat × (IsOver E.L.stops (E.served self.new.engine) self.new.seat → ⊥)) }
+        ensures ended { IfEnded result (WasQuiet self.old.seat self.new.seat × IsOver E.L.stops (E.served self.new.engine) self.new.seat) }
     {
         loop {
             let rang = self.take_in(port);
@@ -107,6 +113,14 @@ impl<E: Engine> Device<E> {
         }
     }
 
+    /// Lets other threads run, where a loop of turns and tends finds nothing to do. Nothing changes by it. It may wait.
+    pub fn rest<R: Wait>(&mut self, rt: &R, port: &Port<E::L>)
+        requires port { self.old.seat.port ≡ port.now }
+        ensures { self.new ≡ self.old }
+    {
+        self.inbox.rest(rt, port);
+    }
+
     /// Turns until the service is over, and lets other threads run whenever nothing is there. It may wait.
     pub fn run<R: Wait>(&mut self, rt: &R, port: &Port<E::L>)
         requires port { self.old.seat.port ≡ port.now }
@@ -114,17 +128,17 @@ impl<E: Engine> Device<E> {
         ensures engine { (E.base self.new.engine ≡ E.base self.old.engine) × (E.room self.new.engine ≡ E.room self.old.engine) }
         ensures port { (self.new.seat.port ≡ self.old.seat.port) × (self.new.seat.passes ≡ self.old.seat.passes) }
         ensures served { StartsWith (E.served self.new.engine) (E.served self.old.engine) }
-        ensures fetched { StartsWith self.new.seat.fetched self.old.seat.fetched }
-        ensures begins { StartsWith (ground_of self.new.seat.fetched) (E.served self.new.engine) }
-        ensures finished { places self.new.seat.finished ≡ places (E.finished self.new.engine) }
-        ensures once { Apart self.new.seat.finished }
-        ensures trail { self.new.seat.trail ≡ trail E.L.told (E.finished self.new.engine) }
+        ensures quiet { WasQuiet self.old.seat self.new.seat }
         ensures over { IsOver E.L.stops (E.served self.new.engine) self.new.seat }
+        ensures all_served { IsAtHand (length (E.served self.new.engine)) self.new.seat → ⊥ }
+        ensures ends { NonePends (length (E.served self.new.engine)) (places (E.finished self.new.engine)) }
+        ensures grows { Grows (E.finished self.old.engine) (E.finished self.new.engine) self.old.seat self.new.seat }
+        ensures agrees { Agrees E.L.told (E.L.admits (E.base self.new.engine)) (E.served self.new.engine) (E.finished self.new.engine) self.new.seat }
     {
         for _ in rt.forever() {
             match self.turn(port) {
                 Turn::Ended => return,
-                Turn::Idle => self.inbox.rest(rt, port),
+                Turn::Idle => self.rest(rt, port),
                 Turn::Served(_) => {}
             }
         }

@@ -25,12 +25,11 @@ pub struct MemEngine<'h> {
 
 impl<'h> Model for MemEngine<'h> {
     ghost use Rattle.demi_memq.specs.Engine.{MemValue};
-    ghost use Rattle.demi_memq.specs.Segments.{held};
     ghost use Rattle.demi_memq.specs.Serving.{IsKept, IsSound};
 
     ghost Value = { MemValue };
 
-    ghost view = { λ e. record { pass = e.queues.pass; room = e.queues.room; served = e.history.value; finished = e.outcomes.value; held = held e.queues.waiting.items } };
+    ghost view = { λ e. record { pass = e.queues.pass; room = e.queues.room; served = e.history.value; finished = e.outcomes.value; waits = e.queues.waiting.items } };
 
     ghost invariant = { λ e. IsKept e.history.value e.outcomes.value e.queues × IsSound e.queues };
 }
@@ -45,7 +44,7 @@ impl<'h> MemEngine<'h> {
         c: u32,
     ) -> Result<MemEngine<'h>, HeapPass>
         requires { pass.heap ≡ heap.now }
-        ensures made { IfOk result (λ e. e ≡ record { pass = pass; room = c; served = []; finished = []; held = 0 }) }
+        ensures made { IfOk result (λ e. e ≡ record { pass = pass; room = c; served = []; finished = []; waits = [] }) }
         ensures back { IfErr result (λ p. p ≡ pass) }
     {
         let Ok(shut) = Vec::from_elem(alloc, false, 256) else {
@@ -78,7 +77,7 @@ impl<'h> MemEngine<'h> {
     pub fn parts(self) -> HeapPass
         requires { HasStop is_stop self.served ⊎ (self.served ≡ []) }
         ensures pass { result ≡ self.entry.pass }
-        ensures none_held { self.entry.held ≡ 0 }
+        ensures none_wait { self.entry.waits ≡ [] }
     {
         let MemEngine {
             queues,

@@ -67,22 +67,21 @@ impl<'h> Queues<'h> {
         ensures room { self.new.room ≡ self.old.room }
         ensures done { done.new.room ≡ done.old.room }
     {
-        if q >= self.made {
-            release(self.heap, &mut self.pass, sga);
-            done.add(place, MemOut::BadQueue);
+        let refusal = if q >= self.made {
+            MemOut::BadQueue
         } else if self.shut[q as usize] {
-            release(self.heap, &mut self.pass, sga);
-            done.add(place, MemOut::Closed);
+            MemOut::Closed
         } else if let Some(first) = take_first(&mut self.pending, q) {
             done.add(Place(first), MemOut::Item(sga));
-            done.add(place, MemOut::Pushed);
+            return done.add(place, MemOut::Pushed);
         } else if self.waiting.len() < 1024 {
             self.waiting.push_back_reserved((q, sga));
-            done.add(place, MemOut::Pushed);
+            return done.add(place, MemOut::Pushed);
         } else {
-            release(self.heap, &mut self.pass, sga);
-            done.add(place, MemOut::QueueFull);
-        }
+            MemOut::QueueFull
+        };
+        release(self.heap, &mut self.pass, sga);
+        done.add(place, refusal);
     }
 
     pub(crate) fn pop(

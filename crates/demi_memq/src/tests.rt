@@ -5,7 +5,7 @@ ghost use Rattle.std.specs.Prelude.{◌≡◌};
 use crate::MemOp;
 use bench::{
     Got, answer, answer_four, ask, ask_three, device_on, end, free_at_end, port_on, push,
-    push_many, two_passes,
+    push_many, turn, two_passes,
 };
 use std::test::Fail;
 
@@ -28,7 +28,7 @@ fn pops_before_their_pushes(rt: HostRuntime) -> Result<(), Fail> {
     let push_y = push(&rt, &heap, &mut app, &port, pass, 0, 0x79);
     let close = MemOp::Close { q: 0 };
     let [close, third, stop] = ask_three(&rt, &port, pass, close, MemOp::Pop { q: 0 }, MemOp::Stop);
-    let _eight = device.turn(&port);
+    let _eight = turn(&mut device, &port);
     let pops = [queue, first, second, third];
     let pops = answer_four(&rt, &heap, &mut app, &port, pass, pops);
     let others = [push_x, push_y, close, stop];
@@ -59,7 +59,7 @@ fn a_stop_ends_a_pop_that_waits(rt: HostRuntime) -> Result<(), Fail> {
     let pop = ask(&rt, &port, pass, MemOp::Pop { q: 0 });
     let stop = ask(&rt, &port, pass, MemOp::Stop);
     let late = push(&rt, &heap, &mut app, &port, pass, 0, 0x78);
-    let _four = device.turn(&port);
+    let _four = turn(&mut device, &port);
     let outs = [
         answer(&rt, &heap, &mut app, &port, pass, queue),
         answer(&rt, &heap, &mut app, &port, pass, pop),
@@ -88,14 +88,14 @@ fn a_full_queue_takes_a_push_again_after_a_pop(rt: HostRuntime) -> Result<(), Fa
     let mut device = device_on(&rt, rt.alloc(), &heap, mine, seat);
     let pass = &mut passes[0];
     let queue = ask(&rt, &port, pass, MemOp::Queue);
-    let _one = device.turn(&port);
+    let _one = turn(&mut device, &port);
     let opened = answer(&rt, &heap, &mut app, &port, pass, queue);
     let taken = push_many(&rt, &heap, &mut app, &port, pass, &mut device, 1024);
     let beyond = push(&rt, &heap, &mut app, &port, pass, 0, 0x79);
     let pop = ask(&rt, &port, pass, MemOp::Pop { q: 0 });
     let again = push(&rt, &heap, &mut app, &port, pass, 0, 0x7a);
     let stop = ask(&rt, &port, pass, MemOp::Stop);
-    let _four = device.turn(&port);
+    let _four = turn(&mut device, &port);
     let outs = [beyond, pop, again, stop];
     let outs = answer_four(&rt, &heap, &mut app, &port, pass, outs);
     let mine = end(&rt, &heap, port, device, passes);

@@ -288,6 +288,14 @@ pub(crate) fn answer_four(
     ]
 }
 
+/// One turn, of which the tests need to know no more than what stays.
+pub(crate) fn turn(device: &mut Device<MemEngine>, port: &Port<MemLaw>) -> Turn
+    requires { device.old.seat.port ≡ port.now }
+    ensures { (device.new.seat.port ≡ device.old.seat.port) × (device.new.seat.passes ≡ device.old.seat.passes) × (device.new.engine.pass.heap ≡ device.old.engine.pass.heap) }
+{
+    device.turn(port)
+}
+
 /// The last turn, and the close of the port. The engine's pass.
 pub(crate) fn end<'h>(
     rt: &impl Abort,
@@ -329,7 +337,7 @@ fn push_one(
     ensures device { (device.new.seat.port ≡ device.old.seat.port) × (device.new.seat.passes ≡ device.old.seat.passes) × (device.new.engine.pass.heap ≡ device.old.engine.pass.heap) }
 {
     let token = push(rt, heap, app, port, pass, 0, 0x78);
-    let _one = device.turn(port);
+    let _one = turn(device, port);
     answer(rt, heap, app, port, pass, token)
 }
 

@@ -7,5 +7,5 @@ pub invariant_of-self : goal.invariant_of-self
 invariant_of-self g c = let t = c.take_in.ensures in let slots = sym (ap (λ z. z.seat.port.tokens.slots) c.self.view_is ∙ ap (λ z. z.tokens.slots) c.requires.port) in (
   c.self.invariant.0,
   c.self.invariant.1 ∙ sym (ap (λ z. z.port.tokens.slots) t.took.4),
-  serves_took _ _ _ _ _ _ _ _ _ c.self.invariant.2 c.take_in.new.self.given c.take_in.new.self.seat t.given t.took (subst (λ (n : ℕ). NoBell n c.take_in.new.self.seat.rang) slots t.cleared),
+  serves_took _ _ _ _ _ _ _ _ _ _ c.self.invariant.2 c.take_in.new.self.given c.take_in.new.self.seat t.given t.took (subst (λ (n : ℕ). NoBell n c.take_in.new.self.seat.rang) slots t.cleared),
 )

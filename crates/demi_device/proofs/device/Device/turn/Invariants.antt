@@ -1,13 +1,12 @@
-use Rattle.std.proofs.Common.{◌≡◌, ◌+◌, ◌-◌, ◌≤◌, length}
-use Rattle.demi_port_core.specs.Trails.{StartsWith}
+use Rattle.std.proofs.Common.{◌≡◌, ◌+◌, ◌-◌, length}
+use Rattle.demi_device.specs.Turning.{Grows}
 use Rattle.demi_device.proofs.device.Device.turn.Given as goal
 
 abbrev pub invariant-loop-rang : goal.invariant-loop-rang
 invariant-loop-rang g l = record {
   engine : l.self.engine ≡ l.initial.self.engine;
   port : (l.self.seat.port ≡ l.initial.self.seat.port) × (l.self.seat.passes ≡ l.initial.self.seat.passes);
-  clock : l.initial.self.seat.clock ≤ l.self.seat.clock;
-  fetched : StartsWith l.self.seat.fetched l.initial.self.seat.fetched;
+  grows : Grows (g.E.Engine.finished l.initial.self.engine) (g.E.Engine.finished l.initial.self.engine) l.initial.self.seat l.self.seat;
 }
 
 abbrev pub decreases-loop-rang : goal.decreases-loop-rang

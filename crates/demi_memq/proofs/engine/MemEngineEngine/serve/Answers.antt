@@ -4,9 +4,8 @@ use Rattle.demi_memq.specs.Counting.{result_at}
 use Rattle.demi_memq.specs.Engine.{GoesTo, MemValue}
 use Rattle.demi_memq.specs.Kept.{Came}
 use Rattle.demi_memq.specs.Said.{IsFrom, out_said}
-use Rattle.demi_memq.specs.Segments.{held}
 use Rattle.demi_memq.specs.Serving.{IsKept, items_said}
-use Rattle.demi_memq.proofs.Going.{serve_goes}
+use Rattle.demi_memq.proofs.Going.{serve_goes, waits_rightly}
 use Rattle.demi_memq.proofs.Keeping.{each_pends, none_pends}
 use Rattle.demi_memq.proofs.Moves.{come_with}
 use Rattle.demi_memq.proofs.engine.MemEngineEngine.serve.Goals as goal
@@ -29,5 +28,5 @@ returns-clause-ends c = let s = c.serve.new.self in none_pends 1024 c.heard-hist
 pub returns-clause-goes : goal.returns-clause-goes
 returns-clause-goes c =
     let q = c.self.inside.queues in let s = c.serve.new.self in
-    let b : MemValue = record { pass = s.pass; room = s.room; served = c.heard-history.result.value; finished = c.finished.result.value; held = held s.waiting.items } in
-    subst (λ a. GoesTo a b) c.self.view_is (serve_goes q.pass s.pass q.room s.room (held q.waiting.items) (held s.waiting.items) c.self.inside.history.value c.heard-history.result.value c.self.inside.outcomes.value c.finished.result.value c.serve.new.done.added c.args.op c.serve.ensures.room c.heard-history.ensures c.finished.ensures c.serve.ensures.numbers)
+    let b : MemValue = record { pass = s.pass; room = s.room; served = c.heard-history.result.value; finished = c.finished.result.value; waits = s.waiting.items } in
+    subst (λ a. GoesTo a b) c.self.view_is (serve_goes q.pass s.pass q.room s.room q.waiting.items s.waiting.items c.self.inside.history.value c.heard-history.result.value c.self.inside.outcomes.value c.finished.result.value c.serve.new.done.added c.args.op c.serve.ensures.room c.heard-history.ensures c.finished.ensures (waits_rightly 1024 c.heard-history.result.value c.finished.result.value s.made s.shut.items _ (items_said s.waiting.items) s.pending.items (kept c)) c.serve.ensures.numbers)
