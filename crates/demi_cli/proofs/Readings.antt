@@ -5,7 +5,7 @@ use Rattle.std.specs.Io.KnownBytes.{prepend_known, append_known}
 use Rattle.std.proofs.lemmas.List.{append-nil, map-append, take-append-le, take_all}
 use Rattle.std.proofs.lemmas.Grind.{flat_map-append}
 use Rattle.demi_core.specs.Outside.{Reads, bytes_given}
-use Rattle.demi_core.specs.World.{Link}
+use Rattle.demi_core.specs.World.{Link, WorldState}
 use Rattle.demi_spec.specs.Request.{Request, AllGoOn, spelling}
 use Rattle.demi_spec.specs.Input.{Open, Ends, Parses, Takes, Asked, Request_of, front}
 use Rattle.demi_spec.specs.Record.{Record}
@@ -16,7 +16,8 @@ use Rattle.demi_cli.specs.declared.serving.Fault.{Fault}
 use Rattle.demi_cli.specs.declared.serving.Fault.TheVariants as fault
 use Rattle.demi_cli.specs.Serving.{Took, Says, said_to, reply_on, next_reply}
 use Rattle.demi_cli.specs.Steps.{Broke, SaysFront, asks_of}
-use Rattle.demi_cli.specs.Reading.{GaveSome, EachGaveSome, IsDue, EachIsDue, OnlyDueReads}
+use Rattle.demi_cli.specs.Reading.{GaveSome, EachGaveSome, IsDue, EachIsDue, OnlyDueReads, ReadsOnlyWhatIsDue}
+use Rattle.demi_cli.specs.Run.{LinkOf}
 use Rattle.demi_cli.proofs.SoFars.{chained, prepend-none, prepend-append, said_push, flat_map-push}
 
 -- Between turns these reads were made, and gave this text, on a link that is told this.
@@ -183,3 +184,24 @@ pub end_says : (P : Option ℕ → Type 0) (Q : Fault → Type 0) (r : Result (O
     → IfOk r (λ said. P said × (w1 ≡ append_known w0 (reply_on records n ask))) → IfErr r (λ f. Q f × SaysFront records n ask w0 w1) → (more : List ℕ) × (w1 ≡ append_known w0 more)
 end_says P Q (Ok code) records n ask w0 w1 whole part = (reply_on records n ask, whole.1)
 end_says P Q (Err f) records n ask w0 w1 whole part = (take part.1.0 (reply_on records n ask), part.1.2)
+
+-- the same from and to states that tell the same of links
+pub only_between : {Source : Type 0} (read : Source → ℕ → Option (List ℕ) → Source → Type 0) (taken : Source → ℕ) (left : Source → Option (List ℕ)) (faults : Source → ℕ) (old old' new new' : WorldState)
+    → ReadsOnlyWhatIsDue read taken left faults old new → old'.given_links ≡ old.given_links → new'.given_links ≡ new.given_links → new'.kept_link 0 ≡ new.kept_link 0
+    → ReadsOnlyWhatIsDue read taken left faults old' new'
+only_between read taken left faults old old' new new' (inl none) before after keeps = inl (after ∙ none ∙ sym before)
+only_between read taken left faults old old' new new' (inr r) before after keeps =
+    let l : LinkOf old new = r.of_link in
+    inr (record {
+      of_link = record {
+        link = l.link;
+        kept = l.kept;
+        gave = after ∙ l.gave ∙ ap (λ (links : List Link). links ++ l.link ∷ []) (sym before);
+        keeps = keeps ∙ l.keeps;
+      };
+      source = r.source;
+      given = r.given;
+      source_kept = r.source_kept;
+      kept = r.kept;
+      only = r.only;
+    })
