@@ -46,7 +46,7 @@ bytes_push made gave =
 below_or_at : (n m : ℕ) → n < m + 1 → (n < m) ⊎ (n ≡ m)
 below_or_at n m less = grind arith
 
-due_at :(made : List (Option (List ℕ))) (gave : Option (List ℕ)) (said : List ℕ) → EachIsDue made said → IsDue made said → (n : ℕ) → (n < length made) ⊎ (n ≡ length made) → IsDue (take n (made ++ gave ∷ [])) said
+due_at : (made : List (Option (List ℕ))) (gave : Option (List ℕ)) (said : List ℕ) → EachIsDue made said → IsDue made said → (n : ℕ) → (n < length made) ⊎ (n ≡ length made) → IsDue (take n (made ++ gave ∷ [])) said
 due_at made gave said each one n (inl less) =
     let within : n ≤ length made = omega arith in
     subst (λ (l : List (Option (List ℕ))). IsDue l said) (sym (take-append-le n made (gave ∷ []) within)) (each n less)

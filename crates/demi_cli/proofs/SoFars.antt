@@ -113,18 +113,18 @@ so_answered l0 l1 t0 t1 rest after w0 w1 w2 c d e n records new q s takes on a =
     let said = reply_here records n asks (Request_of q) s.records_are count in
     let logged = entry_here records n asks (Request_of q) s.records_are count in
     let push : asks ++ Request_of q ∷ [] ≡ asks_of (rs ++ q ∷ []) = sym (map-append Request_of rs (q ∷ [])) in (
-    record {
-      requests = rs ++ q ∷ [];
-      left = s.left ∙ ap (λ (t : List ℕ). prepend_known t l1) text;
-      taken = s.taken ∙ ap (λ (t : List ℕ). t0 + length t) text;
-      go_on = AllGoOn-push rs q s.go_on on;
-      count_is = omega (arith, s.count_is, length-append rs (q ∷ []));
-      says = chained w0 w1 w2 (said_to asks) (reply_on records n (Request_of q)) s.says a.says
-          ∙ ap (append_known w0) (ap (λ (t : List ℕ). said_to asks ++ t) said ∙ sym (said_push asks (Request_of q)) ∙ ap said_to push);
-      logs = logged_on c d e (logged_for asks) (entry_on records n (Request_of q)) s.logs a.logs
-          ∙ ap (grown c) (ap (λ (t : List ℕ). logged_for asks ++ t) logged ∙ sym (logged_push asks (Request_of q)) ∙ ap logged_for push);
-      records_are = a.records ∙ ap (λ (r : List Record). r ++ added r limit 0 n (Request_of q)) s.records_are
-          ∙ ap (λ m. records_of asks ++ added (records_of asks) limit 0 m (Request_of q)) count ∙ sym (records_push asks (Request_of q)) ∙ ap records_of push;
-    },
+      record {
+        requests = rs ++ q ∷ [];
+        left = s.left ∙ ap (λ (t : List ℕ). prepend_known t l1) text;
+        taken = s.taken ∙ ap (λ (t : List ℕ). t0 + length t) text;
+        go_on = AllGoOn-push rs q s.go_on on;
+        count_is = omega (arith, s.count_is, length-append rs (q ∷ []));
+        says = chained w0 w1 w2 (said_to asks) (reply_on records n (Request_of q)) s.says a.says
+            ∙ ap (append_known w0) (ap (λ (t : List ℕ). said_to asks ++ t) said ∙ sym (said_push asks (Request_of q)) ∙ ap said_to push);
+        logs = logged_on c d e (logged_for asks) (entry_on records n (Request_of q)) s.logs a.logs
+            ∙ ap (grown c) (ap (λ (t : List ℕ). logged_for asks ++ t) logged ∙ sym (logged_push asks (Request_of q)) ∙ ap logged_for push);
+        records_are = a.records ∙ ap (λ (r : List Record). r ++ added r limit 0 n (Request_of q)) s.records_are
+            ∙ ap (λ m. records_of asks ++ added (records_of asks) limit 0 m (Request_of q)) count ∙ sym (records_push asks (Request_of q)) ∙ ap records_of push;
+      },
       refl,
     )

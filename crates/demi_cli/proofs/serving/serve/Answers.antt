@@ -104,7 +104,7 @@ serving-preserved g c =
     let e = c.in_default-answer_get.ensures in
     let h = handed_get c.serving.decoder c.next.new.self c.key-in-Get.result.now c.in-Get.ensures.next i.stop (c.in-Get.ensures.consumed i.stop) c.key-in-Get.ensures in
     let so = so_answered _ _ _ _ c.serving.decoder.rest c.next.new.self.rest _ _ _ _ _ _ c.serving.count c.serving.store.records c.serving.store.records (Get c.key-in-Get.result.now) i.so h.takes h.on
-        (get_answered c.serving.store.records c.serving.count c.key-in-Get.result.now (g.O.Sink.written c.serving.sink) _ _ e.done) in
+    (get_answered c.serving.store.records c.serving.count c.key-in-Get.result.now (g.O.Sink.written c.serving.sink) _ _ e.done) in
     record {
       so = so.0;
       reading = reading_answered g.I.Source.reads (length c.args.room.now) c.args.source.now c.serving.source i.so.requests so.0.requests (Get c.key-in-Get.result.now)
@@ -159,7 +159,7 @@ pub serving-init : goal.serving-init
 serving-init g c =
     let empty : c.args.decoder.now.rest ≡ [] = ap (λ (d : Decoding). d.rest) c.requires.fresh in
     let so = so_start (g.I.Source.left c.args.source.now) (g.O.Sink.written c.args.sink.now) (contents (g.D.Disk.bytes c.args.store.now.disk) (g.D.Disk.held c.args.store.now.disk))
-        (g.I.Source.taken c.args.source.now) c.args.decoder.now.rest c.args.store.now.records empty c.requires.empty in
+    (g.I.Source.taken c.args.source.now) c.args.decoder.now.rest c.args.store.now.records empty c.requires.empty in
     record {
       so = so.0;
       reading = reading_start g.I.Source.reads (length c.args.room.now) c.args.source.now so.0.requests c.args.decoder.now.rest _ so.1 empty;
@@ -189,9 +189,9 @@ serving-preserved-in-More g c =
     let small : length piece ≤ 4096 = omega (arith, same_room, c.requires.small) in
     let all : c.feed.result ≡ length piece = c.feed.ensures.whole more.2 small in
     let is : c.feed.new.self.rest ≡ d.rest ++ piece = ap (λ (x : Decoding). x.rest) fed ∙ ap (λ (t : List ℕ). t ++ take c.feed.result piece) more.1
-        ∙ ap (λ (t : List ℕ). d.rest ++ t) (take_all c.feed.result piece (omega arith)) in
+    ∙ ap (λ (t : List ℕ). d.rest ++ t) (take_all c.feed.result piece (omega arith)) in
     let so = so_more (left c.args.source.now) (left c.serving.source) (left c.read.new.self) (taken c.args.source.now) (taken c.serving.source) (taken c.read.new.self) d.rest piece c.feed.new.self.rest _ _ _ _ _ _
-        i.so e.bytes (e.taken ∙ ap (λ n. taken c.serving.source + n) (sym long)) is in
+    i.so e.bytes (e.taken ∙ ap (λ n. taken c.serving.source + n) (sym long)) is in
     let call = subst (λ n. g.I.Source.reads c.serving.source n (Some piece) c.read.new.self) i.room e.call in
     let some : 0 < length piece = omega (arith, c.if-given-eq0.false) in
     record {
@@ -275,5 +275,5 @@ pub returns-in-Refused-clause-reads : goal.returns-in-Refused-clause-reads
 returns-in-Refused-clause-reads g c =
     let i = c.serving.invariant in
     let said = end_says _ _ c.refuse-in-Refused.result [] c.serving.count (Refused_end c.in-Refused.code) (g.O.Sink.written c.serving.sink) (g.O.Sink.written c.refuse-in-Refused.new.sink)
-        c.refuse-in-Refused.ensures.all c.refuse-in-Refused.ensures.front in
+    c.refuse-in-Refused.ensures.all c.refuse-in-Refused.ensures.front in
     only_so_far g.I.Source.reads (length c.args.room.now) c.args.source.now c.serving.source _ _ _ _ said.0 (g.O.Sink.written c.serving.sink) i.reading i.so.left i.so.taken i.so.says said.1
