@@ -1,6 +1,7 @@
 pub mod Writes
 pub mod Said
 pub mod SoFars
+pub mod Readings
 pub mod Wholes
 pub mod Stops
 pub mod Turns

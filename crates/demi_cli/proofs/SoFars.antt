@@ -52,52 +52,59 @@ logged_on c d e a b p q = q ∙ ap (λ (x : Contents). grown x b) p ∙ grown-gr
 pub count_asks : (n : ℕ) (rs : List Request) → n ≡ length rs → n ≡ length (asks_of rs)
 count_asks n rs is = is ∙ sym (length-map rs Request_of)
 
-prepend-none : (o : Option (List ℕ)) → o ≡ prepend_known [] o
+pub prepend-none : (o : Option (List ℕ)) → o ≡ prepend_known [] o
 prepend-none None = refl
 prepend-none (Some xs) = refl
 
-prepend-append : (a b : List ℕ) (o : Option (List ℕ)) → prepend_known a (prepend_known b o) ≡ prepend_known (a ++ b) o
+pub prepend-append : (a b : List ℕ) (o : Option (List ℕ)) → prepend_known a (prepend_known b o) ≡ prepend_known (a ++ b) o
 prepend-append a b None = refl
 prepend-append a b (Some xs) = ap Some (sym (append_assoc a b xs))
 
-flat_map-push : (rs : List Request) (r : Request) (rest : List ℕ) → flat_map spelling (rs ++ r ∷ []) ++ rest ≡ flat_map spelling rs ++ (spelling r ++ rest)
+pub flat_map-push : (rs : List Request) (r : Request) (rest : List ℕ) → flat_map spelling (rs ++ r ∷ []) ++ rest ≡ flat_map spelling rs ++ (spelling r ++ rest)
 flat_map-push rs r rest =
     ap (λ (t : List ℕ). t ++ rest) (flat_map-append spelling rs (r ∷ []) ∙ ap (λ (t : List ℕ). flat_map spelling rs ++ t) (append-nil (spelling r)))
     ∙ append_assoc (flat_map spelling rs) (spelling r) rest
 
 -- nothing was taken yet
-pub so_start : (l w : Option (List ℕ)) (c : Contents) (t : ℕ) (records : List Record) → records ≡ [] → SoFar l l t t [] w w c c 0 records
-so_start l w c t records none = record {
-  requests = [];
-  left = prepend-none l;
-  taken = omega arith;
-  go_on = tt;
-  count_is = refl;
-  says = append-none w;
-  logs = none_grown c;
-  records_are = none;
-}
+pub so_start : (l w : Option (List ℕ)) (c : Contents) (t : ℕ) (rest : List ℕ) (records : List Record) → rest ≡ [] → records ≡ [] → (s : SoFar l l t t rest w w c c 0 records) × (s.requests ≡ [])
+so_start l w c t rest records empty none = (
+  record {
+    requests = [];
+    left = prepend-none l ∙ ap (λ (x : List ℕ). prepend_known x l) (sym empty);
+    taken = omega (arith, ap length empty);
+    go_on = tt;
+    count_is = refl;
+    says = append-none w;
+    logs = none_grown c;
+    records_are = none;
+  },
+  refl,
+)
 
 -- a piece more
-pub so_more : (l0 l1 l2 : Option (List ℕ)) (t0 t1 t2 : ℕ) (rest piece : List ℕ) (w0 w1 : Option (List ℕ)) (c d : Contents) (n : ℕ) (records : List Record)
-    → SoFar l0 l1 t0 t1 rest w0 w1 c d n records → l1 ≡ prepend_known piece l2 → t2 ≡ t1 + length piece → SoFar l0 l2 t0 t2 (rest ++ piece) w0 w1 c d n records
-so_more l0 l1 l2 t0 t1 t2 rest piece w0 w1 c d n records s given count =
+pub so_more : (l0 l1 l2 : Option (List ℕ)) (t0 t1 t2 : ℕ) (rest piece after : List ℕ) (w0 w1 : Option (List ℕ)) (c d : Contents) (n : ℕ) (records : List Record)
+    → (s : SoFar l0 l1 t0 t1 rest w0 w1 c d n records) → l1 ≡ prepend_known piece l2 → t2 ≡ t1 + length piece → after ≡ rest ++ piece
+    → (t : SoFar l0 l2 t0 t2 after w0 w1 c d n records) × (t.requests ≡ s.requests)
+so_more l0 l1 l2 t0 t1 t2 rest piece after w0 w1 c d n records s given count is =
     let text : List ℕ = flat_map spelling s.requests in
-    let e : (text ++ rest) ++ piece ≡ text ++ (rest ++ piece) = append_assoc text rest piece in
-    record {
-      requests = s.requests;
-      left = s.left ∙ ap (prepend_known (text ++ rest)) given ∙ prepend-append (text ++ rest) piece l2 ∙ ap (λ (t : List ℕ). prepend_known t l2) e;
-      taken = omega (arith, s.taken, ap length e, length-append (text ++ rest) piece);
-      go_on = s.go_on;
-      count_is = s.count_is;
-      says = s.says;
-      logs = s.logs;
-      records_are = s.records_are;
-    }
+    let e : (text ++ rest) ++ piece ≡ text ++ after = append_assoc text rest piece ∙ ap (λ (t : List ℕ). text ++ t) (sym is) in (
+      record {
+        requests = s.requests;
+        left = s.left ∙ ap (prepend_known (text ++ rest)) given ∙ prepend-append (text ++ rest) piece l2 ∙ ap (λ (t : List ℕ). prepend_known t l2) e;
+        taken = omega (arith, s.taken, ap length e, length-append (text ++ rest) piece);
+        go_on = s.go_on;
+        count_is = s.count_is;
+        says = s.says;
+        logs = s.logs;
+        records_are = s.records_are;
+      },
+      refl,
+    )
 
 -- a request was answered
 pub so_answered : (l0 l1 : Option (List ℕ)) (t0 t1 : ℕ) (rest after : List ℕ) (w0 w1 w2 : Option (List ℕ)) (c d e : Contents) (n : ℕ) (records new : List Record) (q : Request)
-    → SoFar l0 l1 t0 t1 rest w0 w1 c d n records → Takes rest q after → GoesOn q → Answered records new n (Request_of q) w1 w2 d e → SoFar l0 l1 t0 t1 after w0 w2 c e (n + 1) new
+    → (s : SoFar l0 l1 t0 t1 rest w0 w1 c d n records) → Takes rest q after → GoesOn q → Answered records new n (Request_of q) w1 w2 d e
+    → (t : SoFar l0 l1 t0 t1 after w0 w2 c e (n + 1) new) × (t.requests ≡ s.requests ++ q ∷ [])
 so_answered l0 l1 t0 t1 rest after w0 w1 w2 c d e n records new q s takes on a =
     let rs : List Request = s.requests in
     let asks : List Asked = asks_of rs in
@@ -105,17 +112,19 @@ so_answered l0 l1 t0 t1 rest after w0 w1 w2 c d e n records new q s takes on a =
     let count = count_asks n rs s.count_is in
     let said = reply_here records n asks (Request_of q) s.records_are count in
     let logged = entry_here records n asks (Request_of q) s.records_are count in
-    let push : asks ++ Request_of q ∷ [] ≡ asks_of (rs ++ q ∷ []) = sym (map-append Request_of rs (q ∷ [])) in
-    record {
-      requests = rs ++ q ∷ [];
-      left = s.left ∙ ap (λ (t : List ℕ). prepend_known t l1) text;
-      taken = s.taken ∙ ap (λ (t : List ℕ). t0 + length t) text;
-      go_on = AllGoOn-push rs q s.go_on on;
-      count_is = omega (arith, s.count_is, length-append rs (q ∷ []));
-      says = chained w0 w1 w2 (said_to asks) (reply_on records n (Request_of q)) s.says a.says
-          ∙ ap (append_known w0) (ap (λ (t : List ℕ). said_to asks ++ t) said ∙ sym (said_push asks (Request_of q)) ∙ ap said_to push);
-      logs = logged_on c d e (logged_for asks) (entry_on records n (Request_of q)) s.logs a.logs
-          ∙ ap (grown c) (ap (λ (t : List ℕ). logged_for asks ++ t) logged ∙ sym (logged_push asks (Request_of q)) ∙ ap logged_for push);
-      records_are = a.records ∙ ap (λ (r : List Record). r ++ added r limit 0 n (Request_of q)) s.records_are
-          ∙ ap (λ m. records_of asks ++ added (records_of asks) limit 0 m (Request_of q)) count ∙ sym (records_push asks (Request_of q)) ∙ ap records_of push;
-    }
+    let push : asks ++ Request_of q ∷ [] ≡ asks_of (rs ++ q ∷ []) = sym (map-append Request_of rs (q ∷ [])) in (
+      record {
+        requests = rs ++ q ∷ [];
+        left = s.left ∙ ap (λ (t : List ℕ). prepend_known t l1) text;
+        taken = s.taken ∙ ap (λ (t : List ℕ). t0 + length t) text;
+        go_on = AllGoOn-push rs q s.go_on on;
+        count_is = omega (arith, s.count_is, length-append rs (q ∷ []));
+        says = chained w0 w1 w2 (said_to asks) (reply_on records n (Request_of q)) s.says a.says
+            ∙ ap (append_known w0) (ap (λ (t : List ℕ). said_to asks ++ t) said ∙ sym (said_push asks (Request_of q)) ∙ ap said_to push);
+        logs = logged_on c d e (logged_for asks) (entry_on records n (Request_of q)) s.logs a.logs
+            ∙ ap (grown c) (ap (λ (t : List ℕ). logged_for asks ++ t) logged ∙ sym (logged_push asks (Request_of q)) ∙ ap logged_for push);
+        records_are = a.records ∙ ap (λ (r : List Record). r ++ added r limit 0 n (Request_of q)) s.records_are
+            ∙ ap (λ m. records_of asks ++ added (records_of asks) limit 0 m (Request_of q)) count ∙ sym (records_push asks (Request_of q)) ∙ ap records_of push;
+      },
+      refl,
+    )

@@ -3,3 +3,4 @@ pub mod Steps
 pub mod Outcome
 pub mod Run
 pub mod Real
+pub mod Reading

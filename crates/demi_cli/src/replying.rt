@@ -1,5 +1,5 @@
-// Replies as they are written: the head, and then the bytes where there are any.
-ghost use Rattle.std.specs.Prelude.{◌≡◌, ◌<◌, ℕ, ◌^◌, length as list_length, take, OnOk, OnErr};
+// Replies as they are written: the head and the bytes behind it, in one call where the sink can.
+ghost use Rattle.std.specs.Prelude.{◌≡◌, ◌<◌, ◌++◌, ℕ, ◌^◌, length as list_length, take, OnOk, OnErr};
 ghost use Rattle.std.specs.Io.KnownBytes.{append_known};
 ghost use Rattle.demi_core.specs.Outside.{HasCause};
 ghost use Rattle.demi_spec.specs.Reply.{frame};
@@ -20,6 +20,19 @@ pub fn write_all<O: Sink>(sink: &mut O, piece: &[u8]) -> Result<(), Failed>
     Ok(())
 }
 
+/// Writes the first piece and then the second. Where the sink fails, a proper front of both joined was written.
+pub fn write_both<O: Sink>(sink: &mut O, first: &[u8], second: &[u8]) -> Result<(), Failed>
+    ensures all { OnOk result (O.written sink.new ≡ append_known (O.written sink.old) (first.now ++ second.now)) }
+    ensures front { OnErr result ((k : ℕ) × (k < list_length (first.now ++ second.now)) × (O.written sink.new ≡ append_known (O.written sink.old) (take k (first.now ++ second.now)))) }
+    ensures cause { HasCause (O.faults sink.old) (O.faults sink.new) result }
+{
+    let mut at = 0;
+    'writing: while at < first.len() {
+        at += sink.write_two(&first[at..], second)?;
+    }
+    write_all(sink, &second[at - first.len()..])
+}
+
 /// Writes a reply of worker 0. Where the sink fails, a proper front of it was written.
 pub fn write_reply<O: Sink>(
     sink: &mut O,
@@ -34,9 +47,5 @@ pub fn write_reply<O: Sink>(
     ensures cause { HasCause (O.faults sink.old) (O.faults sink.new) result }
 {
     let head = reply_head(kind, 0, sequence, version, bytes.len() as u32);
-    write_all(sink, &head)?;
-    if bytes.is_empty() {
-        return Ok(());
-    }
-    write_all(sink, bytes)
+    write_both(sink, &head, bytes)
 }

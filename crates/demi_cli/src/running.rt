@@ -3,6 +3,7 @@ ghost use Rattle.demi_core.specs.Outside.{Rose};
 ghost use Rattle.demi_core.specs.World.{Link, Log, WorldState, after_links, after_warn};
 ghost use Rattle.demi_cli.specs.Outcome.{is_pipe, log_name, reported, status_of};
 ghost use Rattle.demi_cli.specs.declared.serving.Fault.{Fault};
+ghost use Rattle.demi_cli.specs.Reading.{ReadsOnlyWhatIsDue};
 ghost use Rattle.demi_cli.specs.Run.{AtLink, with_link, Ran, outcome_of, Keeps, CannotOpen, BadLog, EmptyLog, LogFaulted, ReadFaulted, WriteFaulted, WholeRun, NoLink, Unlinked, StoppedRun, FrontRun, status_of_fault, Warned};
 
 use crate::outcome::Outcome;
@@ -12,6 +13,9 @@ use demi_core::{Halt, Site, World};
 use demi_frame::Decoder;
 use demi_store::{PlainRefusal, PlainStore};
 use std::alloc::Global;
+
+// How many bytes one read gives at most.
+const ROOM_BYTES: usize = 4096;
 
 // The one link of standard input and output.
 fn first_link<W: World>(alloc: Global, world: &mut W) -> Result<(W::In, W::Out), Halt>
@@ -57,6 +61,7 @@ fn over_link<W: World>(alloc: Global, store: &mut PlainStore<W::Log>, world: &mu
         (record { held = W.Log.held store.old.disk; bytes = W.Log.bytes store.old.disk; faults = W.Log.faults store.old.disk })
         (record { held = W.Log.held store.new.disk; bytes = W.Log.bytes store.new.disk; faults = W.Log.faults store.new.disk })
         (W.faults world.old) (W.faults world.new) }
+    ensures reads { ReadsOnlyWhatIsDue W.In.reads W.In.taken W.In.left W.In.faults (W.state world.old) (W.state world.new) }
     ensures later { W.Log.faults store.old.disk ≤ W.Log.faults store.new.disk }
     ensures faults { W.faults world.old ≤ W.faults world.new }
     ensures print_faults { W.print_faults world.new ≡ W.print_faults world.old }
@@ -69,7 +74,7 @@ fn over_link<W: World>(alloc: Global, store: &mut PlainStore<W::Log>, world: &mu
         Err(Halt::Failed) => return Outcome::CannotOpen,
         Err(Halt::NoMemory) => return Outcome::NoMemory,
     };
-    let mut room = [0; 4096];
+    let mut room = [0; ROOM_BYTES];
     let end = serve(&mut source, &mut sink, store, &mut decoder, &mut room);
     world.keep_link(0, source, sink);
     outcome_of(end)
@@ -78,6 +83,7 @@ fn over_link<W: World>(alloc: Global, store: &mut PlainStore<W::Log>, world: &mu
 // Runs `pipe` over a log.
 fn pipe<W: World>(alloc: Global, name: &str, world: &mut W) -> Outcome
     ensures ran { Ran (W.state world.old) (W.state world.new) (W.faults world.old) (W.faults world.new) name.now result }
+    ensures reads { ReadsOnlyWhatIsDue W.In.reads W.In.taken W.In.left W.In.faults (W.state world.old) (W.state world.new) }
     ensures print_faults { W.print_faults world.new ≡ W.print_faults world.old }
 {
     let log = match world.log(alloc, name) {
@@ -132,6 +138,9 @@ fn pipe_log(words: &Vec<String>) -> Option<&str>
 /// | 7 | exactly where the log was read and is not empty; it is as it was, and no link is taken |
 /// | 8 | only where the world's count of faults rose; no link is taken |
 ///
+/// Whatever the status, nothing more of the link is read after the end frame, a refused frame, the end of the input or a
+/// fault: each read is made only where all before it gave whole requests, and these are answered.
+///
 /// Not promised: that memory is found.
 pub fn run<W: World>(alloc: Global, words: &Vec<String>, world: &mut W) -> u8
     ensures usage { (result ≡ 1) ↔ (is_pipe (map string_bytes words.now.items) ≡ false) }
@@ -148,6 +157,7 @@ pub fn run<W: World>(alloc: Global, words: &Vec<String>, world: &mut W) -> u8
         → Unlinked fault (W.state world.old) (W.state world.new) (log_name (map string_bytes words.now.items))
         ⊎ StoppedRun fault (W.state world.old) (W.state world.new) (log_name (map string_bytes words.now.items)) }
     ensures front { (fault : Fault) → result ≡ status_of_fault fault → NoLink (W.state world.old) (W.state world.new) ⊎ FrontRun (W.state world.old) (W.state world.new) }
+    ensures reads { ReadsOnlyWhatIsDue W.In.reads W.In.taken W.In.left W.In.faults (W.state world.old) (W.state world.new) }
     ensures said { (W.state world.new).said ≡ (W.state world.old).said }
     ensures print_faults { W.print_faults world.new ≡ W.print_faults world.old }
     ensures warned { Warned result (W.state world.old) (W.state world.new) }

@@ -1,5 +1,6 @@
 // The run over one link.
 ghost use Rattle.std.specs.Prelude.{◌≡◌, ◌≤◌, ◌<◌, [], None, true, length, IfOk, IfErr};
+ghost use Rattle.demi_cli.specs.Reading.{OnlyDueReads};
 ghost use Rattle.demi_cli.specs.Serving.{Whole, Stopped};
 
 use crate::answering::{answer_get, answer_put, bye, refuse};
@@ -43,6 +44,9 @@ pub fn serve<I: Source, O: Sink, D: Disk>(
         (record { taken = I.taken source.new; left = I.left source.new; read_faults = I.faults source.new; written = O.written sink.new; write_faults = O.faults sink.new })
         (record { held = D.held store.old.disk; bytes = D.bytes store.old.disk; faults = D.faults store.old.disk })
         (record { held = D.held store.new.disk; bytes = D.bytes store.new.disk; faults = D.faults store.new.disk })) }
+    ensures reads { OnlyDueReads I.reads (length room.old) source.old source.new
+        (record { taken = I.taken source.old; left = I.left source.old; read_faults = I.faults source.old; written = O.written sink.old; write_faults = O.faults sink.old })
+        (record { taken = I.taken source.new; left = I.left source.new; read_faults = I.faults source.new; written = O.written sink.new; write_faults = O.faults sink.new }) }
     ensures later { D.faults store.old.disk ≤ D.faults store.new.disk }
 {
     let mut count = 0;

@@ -1,4 +1,5 @@
-ghost use Rattle.std.specs.Prelude.{◌≡◌, ◌≤◌, ◌^◌, None, IfSome};
+ghost use Rattle.std.specs.Prelude.{◌≡◌, ◌+◌, ◌≤◌, ◌^◌, None, IfSome, IsTrue, length, refl};
+ghost use mathlib.Core.Path.{◌∙◌};
 
 use super::once::{read_once_at, write_once_at};
 use demi_core::{Disk, Failed};
@@ -68,6 +69,17 @@ impl Disk for FileLog {
     ghost bytes = { λ d. None };
 
     ghost faults = { λ d. d.faults };
+
+    // It tells of its calls only how many bytes it then holds.
+    ghost appends = { λ d piece ok e. IsTrue ok → e.held_bytes ≡ d.held_bytes + length piece };
+
+    ghost cuts = { λ d len ok e. IsTrue ok → e.held_bytes ≡ len };
+
+    ghost looks = { λ d e. e.held_bytes ≡ d.held_bytes };
+
+    ghost looks_same = { λ d. refl };
+
+    ghost looks_on = { λ a b c first then. then ∙ first };
 
     ghost told_held = { λ d. tt };
 

@@ -1,4 +1,4 @@
-ghost use Rattle.std.specs.Prelude.{◌≡◌, ◌≤◌, ◌^◌, None};
+ghost use Rattle.std.specs.Prelude.{◌≡◌, ◌+◌, ◌≤◌, ◌^◌, [], None, length, unwrap_or};
 
 use super::once::read_once;
 use demi_core::{Failed, Source};
@@ -53,6 +53,9 @@ impl Source for StreamIn {
     ghost left = { λ s. None };
 
     ghost faults = { λ s. s.faults };
+
+    // It tells of a read only that it counts the bytes that it gave.
+    ghost reads = { λ s room gave t. t.given_bytes ≡ s.given_bytes + length (unwrap_or gave []) };
 
     ghost told_bytes = { λ s. tt };
 

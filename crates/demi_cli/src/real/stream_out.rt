@@ -43,4 +43,13 @@ impl Sink for StreamOut {
             }
         }
     }
+
+    // Of one piece alone: the toolchain has no single call of the system by which standard output takes two, and a copy
+    // of both into one buffer would be made again of what the system did not take.
+    fn write_two(&mut self, first: &[u8], second: &[u8]) -> Result<usize, Failed> {
+        if first.is_empty() {
+            return self.write(second);
+        }
+        self.write(first)
+    }
 }

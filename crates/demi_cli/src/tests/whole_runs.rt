@@ -40,7 +40,9 @@ fn puts_from_bytes_to_bytes(rt: HostRuntime) -> Result<(), Fail> {
         b'v',
         2000,
     )?;
-    let rows: [(&str, &[&str], &[u8], u8, &[u8], &[u8], &[u8]); 6] = [
+    let ended = filled(rt.alloc(), b"\x03\x00\x00\x00\x00\x00", b'x', 2000)?;
+    let refused = filled(rt.alloc(), b"\x09\x00\x00\x01\x00\x01", b'x', 2000)?;
+    let rows: [(&str, &[&str], &[u8], u8, &[u8], &[u8], &[u8], usize); 8] = [
         (
             "a put",
             &["pipe", "L"],
@@ -49,8 +51,9 @@ fn puts_from_bytes_to_bytes(rt: HostRuntime) -> Result<(), Fail> {
             b"\x81\x00\x00\x00\x00\x00\x00\x00\x00\x01\x00\x00\x00\x00\x00\x00\x00\x01\x00\x00\x00\x011",
             b"DEMILOG1\x00\x00\x00\x09\x00\x00\x00\x00\x00\x00\x01a1",
             b"",
+            0,
         ),
-        ("nothing", &["pipe", "L"], b"", 0, b"", b"DEMILOG1", b""),
+        ("nothing", &["pipe", "L"], b"", 0, b"", b"DEMILOG1", b"", 0),
         (
             "the largest put",
             &["pipe", "L"],
@@ -59,6 +62,7 @@ fn puts_from_bytes_to_bytes(rt: HostRuntime) -> Result<(), Fail> {
             &its_reply,
             &its_log,
             b"",
+            0,
         ),
         (
             "no log is named",
@@ -68,6 +72,7 @@ fn puts_from_bytes_to_bytes(rt: HostRuntime) -> Result<(), Fail> {
             b"",
             b"",
             b"usage: demi pipe, serve, bench, check or log",
+            8,
         ),
         (
             "no such log",
@@ -77,6 +82,7 @@ fn puts_from_bytes_to_bytes(rt: HostRuntime) -> Result<(), Fail> {
             b"",
             b"",
             b"demi: cannot open",
+            8,
         ),
         (
             "a put that comes in three pieces",
@@ -86,9 +92,30 @@ fn puts_from_bytes_to_bytes(rt: HostRuntime) -> Result<(), Fail> {
             &long_reply,
             &long_log,
             b"",
+            0,
+        ),
+        (
+            "an end frame and more behind it",
+            &["pipe", "L"],
+            &ended,
+            0,
+            b"\x85\x00\x00\x00\x00\x00\x00\x00\x00\x01\x00\x00\x00\x00\x00\x00\x00\x00\x00\x00\x00\x00",
+            b"DEMILOG1",
+            b"",
+            1006,
+        ),
+        (
+            "a refused frame and more behind it",
+            &["pipe", "L"],
+            &refused,
+            6,
+            b"\x84\x00\x00\x00\x00\x00\x00\x00\x00\x01\x00\x00\x00\x00\x00\x00\x00\x00\x00\x00\x00\x01\x01",
+            b"DEMILOG1",
+            b"demi: link 0 refused with code 1",
+            1006,
         ),
     ];
-    for (name, words, input, status, output, log, warned) in rows {
+    for (name, words, input, status, output, log, warned, rest) in rows {
         let thousands = Setup {
             piece: 1000,
             ..on_an_empty_log(input)
@@ -98,7 +125,6 @@ fn puts_from_bytes_to_bytes(rt: HostRuntime) -> Result<(), Fail> {
         assert_eq!(rt; left.output.as_slice(), output, "{name}");
         assert_eq!(rt; left.log.as_slice(), log, "{name}");
         assert_eq!(rt; left.warned.as_slice(), warned, "{name}");
-        let rest = if status == 0 { 0 } else { input.len() };
         assert_eq!(rt; left.rest, rest, "{name}");
     }
     Ok(())

@@ -1,7 +1,8 @@
-use Rattle.std.proofs.Common.{◌∙◌, ap, List, ℕ, None}
+use Rattle.std.proofs.Common.{◌∙◌, ap, sym, List, ℕ, None}
 use Rattle.demi_core.specs.World.{Log, WorldState, after_keep_log}
 use Rattle.demi_cli.specs.Run.{A_log, with_link}
 use Rattle.demi_cli.proofs.Ends.{ends_headed}
+use Rattle.demi_cli.proofs.Readings.{only_between}
 use Rattle.demi_cli.proofs.running.pipe.Goals as goal
 
 pub returns-in-NotEmpty-clause-ran : goal.returns-in-NotEmpty-clause-ran
@@ -38,3 +39,11 @@ returns-clause-ran g c =
       keeps = k ∙ ap (λ (w : WorldState). after_keep_log w name kept) (e.1 ∙ ap (with_link e.0) c.in-Ok.ensures.given);
       ends = ends_headed c.over_link-outcome.result e.0 log mid kept _ _ _ _ c.in-Ok-make.ensures.empty.1 c.in-Ok-make.ensures.headed c.in-Ok-make.ensures.later c.log.ensures.later c.keep_log-2.ensures.faults e.2;
     }
+
+pub returns-clause-reads : goal.returns-clause-reads
+returns-clause-reads g c =
+    let state = g.W.World.state in
+    let k = rw c.disk.ensures at c.keep_log-2.ensures.kept in
+    only_between g.W.In.Source.reads g.W.In.Source.taken g.W.In.Source.left g.W.In.Source.faults
+    (state c.log.new.self) (state c.args.world.now) (state c.over_link-outcome.new.world) (state c.keep_log-2.new.self) c.over_link-outcome.ensures.reads
+    (sym (ap (λ (w : WorldState). w.given_links) c.in-Ok.ensures.given)) (ap (λ (w : WorldState). w.given_links) k) (ap (λ (w : WorldState). w.kept_link 0) k)

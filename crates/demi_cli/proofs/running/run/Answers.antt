@@ -1,8 +1,9 @@
-use Rattle.std.proofs.Common.{ap}
+use Rattle.std.proofs.Common.{ap, refl}
 use Rattle.demi_cli.specs.declared.outcome.Outcome.TheVariants as outcome
 use Rattle.demi_core.specs.World.{WorldState}
 use Rattle.demi_cli.proofs.Clauses as clauses
 use Rattle.demi_cli.proofs.Fronts.{front}
+use Rattle.demi_cli.proofs.Readings.{only_between}
 use Rattle.demi_cli.proofs.running.run.Goals as goal
 
 pub returns-in_default-clause-warned : goal.returns-in_default-clause-warned
@@ -53,3 +54,11 @@ returns-clause-front g c =
     let r = rw c.in-Some.ensures.1 at c.pipe-outcome.ensures.ran in
     λ f e. front f (g.W.World.state c.args.world.now) (g.W.World.state c.report-2.new.world) _
     (clauses.stopped (g.W.World.state c.args.world.now) (g.W.World.state c.pipe-outcome.new.world) (g.W.World.state c.report-2.new.world) _ _ _ c.pipe-outcome.result c.report-2.result r c.report-2.ensures.status c.report-2.ensures.warned f e)
+
+pub returns-clause-reads : goal.returns-clause-reads
+returns-clause-reads g c =
+    let state = g.W.World.state in
+    let same = clauses.same_but c.pipe-outcome.result (state c.pipe-outcome.new.world) (state c.report-2.new.world) c.report-2.ensures.warned in
+    only_between g.W.In.Source.reads g.W.In.Source.taken g.W.In.Source.left g.W.In.Source.faults
+    (state c.args.world.now) (state c.args.world.now) (state c.pipe-outcome.new.world) (state c.report-2.new.world) c.pipe-outcome.ensures.reads
+    refl (ap (λ (w : WorldState). w.given_links) same) (ap (λ (w : WorldState). w.kept_link 0) same)

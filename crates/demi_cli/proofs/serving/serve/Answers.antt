@@ -1,10 +1,15 @@
-use Rattle.std.proofs.Common.{◌≡◌, ◌∙◌, ap, ℕ, List, Some, None, true, false, arith}
+use Rattle.std.proofs.Common.{◌≡◌, ◌∙◌, ap, sym, refl, subst, ℕ, ◌+◌, ◌<◌, ◌≤◌, List, [], ◌++◌, length, take, length-append, Some, None, true, false, arith}
+use Rattle.std.proofs.lemmas.List.{length-take, take_all}
 use Rattle.std.specs.Prelude.{Err}
-use Rattle.demi_spec.specs.Request.{Put, Get}
+use Rattle.demi_spec.specs.Request.{Put, Get, End}
+use Rattle.demi_spec.specs.Input.{Request_of, Refused_end}
+use Rattle.demi_frame.specs.Decoding.{Decoding}
+use Rattle.demi_store.proofs.Growth.{append-none}
 use Rattle.demi_frame.specs.Decoding as frame
 use Rattle.demi_spec.specs.Input as input
 use Rattle.demi_store.specs.Contents.{contents}
-use Rattle.demi_cli.proofs.SoFars.{so_answered}
+use Rattle.demi_cli.proofs.SoFars.{so_answered, so_more, so_start}
+use Rattle.demi_cli.proofs.Readings.{reading_start, reading_more, reading_answered, only_so_far, only_and_last, gave_none, broke_says, end_says}
 use Rattle.demi_cli.proofs.Wholes.{whole_none, ended_refused}
 use Rattle.demi_cli.proofs.Stops.{rose_since, stopped_read, refused_stopped, bye_stopped, stopped_get, stopped_put}
 use Rattle.demi_cli.proofs.Turns.{refused_whole, bye_whole, get_answered, so_none, so_failed, nothing_left, handed_put, handed_get}
@@ -71,8 +76,12 @@ serving-preserved-in-Put g c =
     let i = c.serving.invariant in
     let e = c.in_default-answer_put.ensures in
     let h = handed_put c.serving.decoder c.next.new.self c.key.result.now c.value.result.now c.in-Put.ensures.next i.stop (c.in-Put.ensures.consumed i.stop) c.key.ensures c.value.ensures in
+    let so = so_answered _ _ _ _ c.serving.decoder.rest c.next.new.self.rest _ _ _ _ _ _ c.serving.count c.serving.store.records _ (Put c.key.result.now c.value.result.now) i.so h.takes h.on e.done in
     record {
-      so = so_answered _ _ _ _ c.serving.decoder.rest c.next.new.self.rest _ _ _ _ _ _ c.serving.count c.serving.store.records _ (Put c.key.result.now c.value.result.now) i.so h.takes h.on e.done;
+      so = so.0;
+      reading = reading_answered g.I.Source.reads (length c.args.room.now) c.args.source.now c.serving.source i.so.requests so.0.requests (Put c.key.result.now c.value.result.now)
+          c.serving.decoder.rest c.next.new.self.rest i.reading h.takes so.1;
+      room = i.room;
       stop = h.stop;
       fits = omega (arith, h.shorter, i.fits);
       most = i.most;
@@ -94,9 +103,13 @@ serving-preserved g c =
     let i = c.serving.invariant in
     let e = c.in_default-answer_get.ensures in
     let h = handed_get c.serving.decoder c.next.new.self c.key-in-Get.result.now c.in-Get.ensures.next i.stop (c.in-Get.ensures.consumed i.stop) c.key-in-Get.ensures in
+    let so = so_answered _ _ _ _ c.serving.decoder.rest c.next.new.self.rest _ _ _ _ _ _ c.serving.count c.serving.store.records c.serving.store.records (Get c.key-in-Get.result.now) i.so h.takes h.on
+    (get_answered c.serving.store.records c.serving.count c.key-in-Get.result.now (g.O.Sink.written c.serving.sink) _ _ e.done) in
     record {
-      so = so_answered _ _ _ _ c.serving.decoder.rest c.next.new.self.rest _ _ _ _ _ _ c.serving.count c.serving.store.records c.serving.store.records (Get c.key-in-Get.result.now) i.so h.takes h.on
-          (get_answered c.serving.store.records c.serving.count c.key-in-Get.result.now (g.O.Sink.written c.serving.sink) _ _ e.done);
+      so = so.0;
+      reading = reading_answered g.I.Source.reads (length c.args.room.now) c.args.source.now c.serving.source i.so.requests so.0.requests (Get c.key-in-Get.result.now)
+          c.serving.decoder.rest c.next.new.self.rest i.reading h.takes so.1;
+      room = i.room;
       stop = h.stop;
       fits = omega (arith, h.shorter, i.fits);
       most = i.most;
@@ -141,3 +154,126 @@ returns-in_default-clause-stopped g c =
     let more = c.in-More.ensures.consumed i.stop in
     let s = so_failed (left c.args.source.now) (left c.serving.source) (left c.read.new.self) (taken c.args.source.now) (taken c.serving.source) (taken c.read.new.self) c.serving.decoder.rest _ _ _ _ _ _ i.so e.failed_left e.failed_taken in
     stopped_read _ _ _ _ c.serving.decoder.rest c.serving.count c.serving.store.records s more.0 (rose_since _ _ _ i.later_source e.cause.failed)
+
+pub serving-init : goal.serving-init
+serving-init g c =
+    let empty : c.args.decoder.now.rest ≡ [] = ap (λ (d : Decoding). d.rest) c.requires.fresh in
+    let so = so_start (g.I.Source.left c.args.source.now) (g.O.Sink.written c.args.sink.now) (contents (g.D.Disk.bytes c.args.store.now.disk) (g.D.Disk.held c.args.store.now.disk))
+    (g.I.Source.taken c.args.source.now) c.args.decoder.now.rest c.args.store.now.records empty c.requires.empty in
+    record {
+      so = so.0;
+      reading = reading_start g.I.Source.reads (length c.args.room.now) c.args.source.now so.0.requests c.args.decoder.now.rest _ so.1 empty;
+      room = refl;
+      stop = ap (λ (d : Decoding). d.stop) c.requires.fresh;
+      fits = omega (arith, ap length empty);
+      most = omega arith;
+      later_source = omega arith;
+      later_sink = omega arith;
+      later_disk = omega arith;
+    }
+
+pub serving-preserved-in-More : goal.serving-preserved-in-More
+serving-preserved-in-More g c =
+    let left = g.I.Source.left in
+    let taken = g.I.Source.taken in
+    let d = c.serving.decoder in
+    let i = c.serving.invariant in
+    let e = c.in-Ok.ensures in
+    let more = c.in-More.ensures.consumed i.stop in
+    let given : ℕ = c.in-Ok.given in
+    let piece : List ℕ = take given c.read.new.room in
+    let within : given ≤ length c.read.new.room = e.within in
+    let long : length piece ≡ given = omega (arith, length-take given c.read.new.room) in
+    let fed = c.feed.ensures.fed in
+    let same_room : length c.read.new.room ≡ length c.args.room.now = c.read.auto.room ∙ i.room in
+    let small : length piece ≤ 4096 = omega (arith, same_room, c.requires.small) in
+    let all : c.feed.result ≡ length piece = c.feed.ensures.whole more.2 small in
+    let is : c.feed.new.self.rest ≡ d.rest ++ piece = ap (λ (x : Decoding). x.rest) fed ∙ ap (λ (t : List ℕ). t ++ take c.feed.result piece) more.1
+    ∙ ap (λ (t : List ℕ). d.rest ++ t) (take_all c.feed.result piece (omega arith)) in
+    let so = so_more (left c.args.source.now) (left c.serving.source) (left c.read.new.self) (taken c.args.source.now) (taken c.serving.source) (taken c.read.new.self) d.rest piece c.feed.new.self.rest _ _ _ _ _ _
+    i.so e.bytes (e.taken ∙ ap (λ n. taken c.serving.source + n) (sym long)) is in
+    let call = subst (λ n. g.I.Source.reads c.serving.source n (Some piece) c.read.new.self) i.room e.call in
+    let some : 0 < length piece = omega (arith, c.if-given-eq0.false) in
+    record {
+      so = so.0;
+      reading = reading_more g.I.Source.reads (length c.args.room.now) c.args.source.now c.serving.source c.read.new.self i.so.requests so.0.requests d.rest piece c.feed.new.self.rest
+          i.reading i.so.go_on more.0 call some is so.1;
+      room = same_room;
+      stop = ap (λ (x : Decoding). x.stop) fed ∙ more.3;
+      fits = omega (arith, i.fits, ap length is, length-append d.rest piece, e.taken);
+      most = omega (arith, e.most.1);
+      later_source = omega (arith, i.later_source, e.cause.later);
+      later_sink = i.later_sink;
+      later_disk = i.later_disk;
+    }
+
+pub returns-in_default-clause-reads : goal.returns-in_default-clause-reads
+returns-in_default-clause-reads g c =
+    let left = g.I.Source.left in
+    let taken = g.I.Source.taken in
+    let i = c.serving.invariant in
+    let e = c.in_default.ensures in
+    let more = c.in-More.ensures.consumed i.stop in
+    let call = subst (λ n. g.I.Source.reads c.serving.source n None c.read.new.self) i.room e.call in
+    only_and_last g.I.Source.reads (length c.args.room.now) c.args.source.now c.serving.source c.read.new.self _ _ i.so.requests c.serving.decoder.rest []
+    (left c.serving.source) (taken c.serving.source) (g.O.Sink.written c.serving.sink) None
+    i.reading i.so.go_on more.0 i.so.left i.so.taken call (gave_none (left c.serving.source) (left c.read.new.self) e.failed_left) (omega (arith, e.failed_taken)) i.so.says (append-none (g.O.Sink.written c.serving.sink))
+
+pub returns-in-Some-clause-reads : goal.returns-in-Some-clause-reads
+returns-in-Some-clause-reads g c =
+    let left = g.I.Source.left in
+    let taken = g.I.Source.taken in
+    let i = c.serving.invariant in
+    let e = c.in-Ok.ensures in
+    let more = c.in-More.ensures.consumed i.stop in
+    let given : ℕ = c.in-Ok.given in
+    let piece : List ℕ = take given c.read.new.room in
+    let within : given ≤ length c.read.new.room = e.within in
+    let long : length piece ≡ given = omega (arith, length-take given c.read.new.room) in
+    let call = subst (λ n. g.I.Source.reads c.serving.source n (Some piece) c.read.new.self) i.room e.call in
+    let said = end_says _ _ c.refuse.result [] c.serving.count (Refused_end c.in-Some.code) (g.O.Sink.written c.serving.sink) (g.O.Sink.written c.refuse.new.sink) c.refuse.ensures.all c.refuse.ensures.front in
+    only_and_last g.I.Source.reads (length c.args.room.now) c.args.source.now c.serving.source c.read.new.self _ _ i.so.requests c.serving.decoder.rest said.0
+    (left c.serving.source) (taken c.serving.source) (g.O.Sink.written c.serving.sink) (Some piece)
+    i.reading i.so.go_on more.0 i.so.left i.so.taken call e.bytes (e.taken ∙ ap (λ n. taken c.serving.source + n) (sym long)) i.so.says said.1
+
+pub returns-in-None-clause-reads : goal.returns-in-None-clause-reads
+returns-in-None-clause-reads g c =
+    let left = g.I.Source.left in
+    let taken = g.I.Source.taken in
+    let i = c.serving.invariant in
+    let e = c.in-Ok.ensures in
+    let more = c.in-More.ensures.consumed i.stop in
+    let given : ℕ = c.in-Ok.given in
+    let piece : List ℕ = take given c.read.new.room in
+    let within : given ≤ length c.read.new.room = e.within in
+    let long : length piece ≡ given = omega (arith, length-take given c.read.new.room) in
+    let call = subst (λ n. g.I.Source.reads c.serving.source n (Some piece) c.read.new.self) i.room e.call in
+    only_and_last g.I.Source.reads (length c.args.room.now) c.args.source.now c.serving.source c.read.new.self _ _ i.so.requests c.serving.decoder.rest []
+    (left c.serving.source) (taken c.serving.source) (g.O.Sink.written c.serving.sink) (Some piece)
+    i.reading i.so.go_on more.0 i.so.left i.so.taken call e.bytes (e.taken ∙ ap (λ n. taken c.serving.source + n) (sym long)) i.so.says (append-none (g.O.Sink.written c.serving.sink))
+
+pub returns-in-Err-clause-reads : goal.returns-in-Err-clause-reads
+returns-in-Err-clause-reads g c =
+    let i = c.serving.invariant in
+    let e = c.in-Err.ensures in
+    let said = broke_says c.in-Err.fault c.serving.store.records c.serving.count _ (g.O.Sink.written c.serving.sink) (g.O.Sink.written c.answer_put.new.sink) _ _ e.broke in
+    only_so_far g.I.Source.reads (length c.args.room.now) c.args.source.now c.serving.source _ _ _ _ said.0 (g.O.Sink.written c.serving.sink) i.reading i.so.left i.so.taken i.so.says said.1
+
+pub returns-in-Err-answer_get-clause-reads : goal.returns-in-Err-answer_get-clause-reads
+returns-in-Err-answer_get-clause-reads g c =
+    let i = c.serving.invariant in
+    let e = c.in-Err-answer_get.ensures in
+    only_so_far g.I.Source.reads (length c.args.room.now) c.args.source.now c.serving.source _ _ _ _ _ (g.O.Sink.written c.serving.sink) i.reading i.so.left i.so.taken i.so.says e.broke.2
+
+pub returns-in-End-clause-reads : goal.returns-in-End-clause-reads
+returns-in-End-clause-reads g c =
+    let i = c.serving.invariant in
+    let said = end_says _ _ c.bye.result [] c.serving.count (Request_of End) (g.O.Sink.written c.serving.sink) (g.O.Sink.written c.bye.new.sink) c.bye.ensures.all c.bye.ensures.front in
+    only_so_far g.I.Source.reads (length c.args.room.now) c.args.source.now c.serving.source _ _ _ _ said.0 (g.O.Sink.written c.serving.sink) i.reading i.so.left i.so.taken i.so.says said.1
+
+pub returns-in-Refused-clause-reads : goal.returns-in-Refused-clause-reads
+returns-in-Refused-clause-reads g c =
+    let i = c.serving.invariant in
+    let said = end_says _ _ c.refuse-in-Refused.result [] c.serving.count (Refused_end c.in-Refused.code) (g.O.Sink.written c.serving.sink) (g.O.Sink.written c.refuse-in-Refused.new.sink)
+    c.refuse-in-Refused.ensures.all c.refuse-in-Refused.ensures.front in
+    only_so_far g.I.Source.reads (length c.args.room.now) c.args.source.now c.serving.source _ _ _ _ said.0 (g.O.Sink.written c.serving.sink) i.reading i.so.left i.so.taken i.so.says said.1

@@ -1,13 +1,18 @@
-use Rattle.std.proofs.Common.{◌≡◌, ◌+◌, ◌-◌, ◌*◌, ◌≤◌, None, length, max}
+use Rattle.std.proofs.Common.{◌≡◌, ◌+◌, ◌-◌, ◌*◌, ◌≤◌, ◌++◌, None, flat_map, length, max}
 use Rattle.demi_core.specs.Outside.{source_max}
 use Rattle.demi_store.specs.Contents.{contents}
-use Rattle.demi_cli.specs.Steps.{SoFar}
+use Rattle.demi_spec.specs.Request.{spelling}
+use Rattle.demi_cli.specs.Serving.{said_to}
+use Rattle.demi_cli.specs.Steps.{SoFar, asks_of}
+use Rattle.demi_cli.proofs.Readings.{Reading}
 use Rattle.demi_cli.proofs.serving.serve.Given as goal
 
 abbrev pub invariant-serving : goal.invariant-serving
 invariant-serving g l = record {
   so : SoFar (g.I.Source.left l.fn.source) (g.I.Source.left l.source) (g.I.Source.taken l.fn.source) (g.I.Source.taken l.source) l.decoder.rest
       (g.O.Sink.written l.fn.sink) (g.O.Sink.written l.sink) (contents (g.D.Disk.bytes l.fn.store.disk) (g.D.Disk.held l.fn.store.disk)) (contents (g.D.Disk.bytes l.store.disk) (g.D.Disk.held l.store.disk)) l.count l.store.records;
+  reading : Reading g.I.Source.reads (length l.fn.room) l.fn.source l.source (flat_map spelling so.requests ++ l.decoder.rest) (said_to (asks_of so.requests));
+  room : length l.room ≡ length l.fn.room;
   stop : l.decoder.stop ≡ None;
   fits : 6 * l.count + length l.decoder.rest + g.I.Source.taken l.fn.source ≤ g.I.Source.taken l.source;
   most : g.I.Source.taken l.source ≤ max source_max (g.I.Source.taken l.fn.source);

@@ -1,0 +1,65 @@
+-- Which reads a run makes of its link's source: only those that are due.
+use Rattle.std.specs.Prelude.{◌≡◌, ℕ, ◌<◌, false, List, [], ◌∷◌, ◌++◌, length, map, take, Option, Some, None, ◌⊎◌}
+use Rattle.demi_core.specs.Outside.{Reads, bytes_given}
+use Rattle.demi_core.specs.World.{WorldState, Link}
+use Rattle.demi_spec.specs.Request.{Request}
+use Rattle.demi_spec.specs.Input.{Open, Parses, Request_of}
+use Rattle.demi_cli.specs.Serving.{Took, Says, said_to}
+use Rattle.demi_cli.specs.Run.{LinkOf, NoLink}
+
+-- a read gave a byte at least: it did not fail, and did not meet the end of the input
+abbrev pub GaveSome : Option (List ℕ) → Type 0
+GaveSome None = ⊥
+GaveSome (Some bytes) = 0 < length bytes
+
+abbrev pub EachGaveSome : List (Option (List ℕ)) → Type 0
+EachGaveSome [] = Unit {0}
+EachGaveSome (gave ∷ later) = GaveSome gave × EachGaveSome later
+
+-- One read more is due behind these, on a link that is told this. Each of them gave some bytes. Together the bytes are
+-- whole requests and at most a part of one more, so neither an end frame nor a refused frame is among them; and the
+-- link is told the whole replies to all of these requests, so no fault came between.
+pub record IsDue (earlier : List (Option (List ℕ))) (said : List ℕ) : Type 0 where
+  pub gave : EachGaveSome earlier
+  pub requests : List Request
+  pub parses : Parses requests Open false (bytes_given earlier)
+  pub more : List ℕ
+  pub answered : said ≡ said_to (map Request_of requests) ++ more
+
+-- each of these reads was due behind those before it
+abbrev pub EachIsDue : List (Option (List ℕ)) → List ℕ → Type 0
+EachIsDue made said = (n : ℕ) → n < length made → IsDue (take n made) said
+
+-- Between two moments of a link only due reads were made of its source, each into a room of so many bytes, and they
+-- gave all the bytes that the link took. `read` is the source's relation of one read.
+pub record OnlyDueReads {Source : Type 0} (read : Source → ℕ → Option (List ℕ) → Source → Type 0) (room : ℕ) (old new : Source) (link kept : Link) : Type 0 where
+  pub made : List (Option (List ℕ))
+  pub reads : Reads read room old made new
+  pub took : Took link kept (bytes_given made)
+  pub said : List ℕ
+  pub says : Says link kept said
+  pub due : EachIsDue made said
+
+-- a source tells these numbers and bytes of a link
+pub record SourceOf {Source : Type 0} (taken : Source → ℕ) (left : Source → Option (List ℕ)) (faults : Source → ℕ) (source : Source) (link : Link) : Type 0 where
+  pub taken_is : link.taken ≡ taken source
+  pub left_is : link.left ≡ left source
+  pub faults_are : link.read_faults ≡ faults source
+
+-- how many bytes a read of a run gives at most
+abbrev pub room_bytes : ℕ
+room_bytes = 4096
+
+-- the same in a run, of the link that the world gave and keeps, between the source as it was given and as it is kept
+pub record ReadOnlyDue {Source : Type 0} (read : Source → ℕ → Option (List ℕ) → Source → Type 0) (taken : Source → ℕ) (left : Source → Option (List ℕ)) (faults : Source → ℕ)
+    (old new : WorldState) : Type 0 where
+  pub of_link : LinkOf old new
+  pub source : Source
+  pub given : SourceOf taken left faults source of_link.link
+  pub source_kept : Source
+  pub kept : SourceOf taken left faults source_kept of_link.kept
+  pub only : OnlyDueReads read room_bytes source source_kept of_link.link of_link.kept
+
+-- Nothing more of a link is read after an end frame, a refused frame, the end of the input or a fault.
+abbrev pub ReadsOnlyWhatIsDue : {Source : Type 0} → (Source → ℕ → Option (List ℕ) → Source → Type 0) → (Source → ℕ) → (Source → Option (List ℕ)) → (Source → ℕ) → WorldState → WorldState → Type 0
+ReadsOnlyWhatIsDue read taken left faults old new = NoLink old new ⊎ ReadOnlyDue read taken left faults old new
