@@ -20,9 +20,13 @@ use std::alloc::Global;
 /// How many slots were free, with an application half alone, with both halves, and with a device half alone.
 #[derive(Clone, Copy, PartialEq, Eq, Debug)]
 pub struct HeapEnd {
+    /// Slots with no owner.
     pub free: u32,
+    /// Slots with an application half alone.
     pub app: u32,
+    /// Slots with both halves.
     pub lent: u32,
+    /// Slots with a device half alone.
     pub dev: u32,
 }
 

@@ -1,15 +1,14 @@
 -- A half that goes off from its seat, and one that is the guest of another seat.
-use Rattle.std.proofs.Common.{◌≡◌, ℕ, ◌+◌, ◌<◌, ◌≤◌, ◌≢◌, List, [], ◌∷◌, ◌++◌, set, sym, refl, ap, ◌∙◌, subst, arith}
+use Rattle.std.proofs.Common.{◌≡◌, ℕ, ◌+◌, ◌<◌, List, [], ◌∷◌, ◌++◌, set, sym, refl, ap, ◌∙◌, subst, arith}
 use mathlib.Core.Logic.{dite}
 use mathlib.Core.Option.{some}
 use native.Mathlib.Decide.{dec_le}
 use lib.ListN.{get_elem?}
-use Rattle.std.specs.Prelude.{Option}
 use Rattle.demi_heap_core.specs.declared.shape.Shape.{Shape}
 use Rattle.demi_heap_core.specs.declared.view.Halves.{Halves}
 use Rattle.demi_heap_core.specs.declared.view.Halves.TheVariants.{Neither}
 use Rattle.demi_heap_core.specs.declared.view.View.{View}
-use Rattle.demi_heap_core.specs.Owner.{total, soles, lents, devices, here, slots, guest_at, at, Homes, ViewOk, Owned}
+use Rattle.demi_heap_core.specs.Owner.{soles, lents, devices, here, slots, at, Homes, Owned}
 use Rattle.demi_heap_core.specs.Steps.{part_of, part_alone, bare, with_half, with_guest, without_guest, spent}
 use Rattle.demi_heap_core.specs.Schedule.{LieApart}
 use Rattle.demi_heap_core.proofs.Sums.{here_zero, part-le-total}

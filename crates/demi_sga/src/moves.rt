@@ -135,7 +135,7 @@ fn reclaim_row(heap: &Heap, pass: &mut HeapPass, row: Row<Lent>) -> (Row<AppBuf>
 }
 
 /// Takes the segments back in order, with the bytes that were lent, up to the first that the device still has. `StillHeld`
-/// only where a look of this call found the device half of that segment; a second call goes on there.
+/// only where a look of this call found the device half of that segment, as its half says; a second call goes on there.
 pub fn reclaim(heap: &Heap, pass: &mut HeapPass, half: LentSga) -> Result<AppSga, StillHeld>
     requires { (pass.old.heap ≡ heap.now) × AreOf heap.now half.segments }
     ensures pass { pass.new ≡ pass.old }
@@ -194,7 +194,9 @@ pub fn rejoin(heap: &Heap, pass: &mut HeapPass, half: LentSga, dev: DevSga) -> A
 /// Why there is no new array.
 #[derive(Clone, Copy, PartialEq, Eq, Debug)]
 pub enum SgaRefusal {
+    /// No segment holds so many bytes, or they are none.
     BadSize,
+    /// Each slot of the class had an owner, as the pass says.
     NoSlot,
 }
 

@@ -1,9 +1,8 @@
-use Rattle.std.proofs.Common.{rules, ◌≡◌, ap, sym, ◌∙◌, subst}
+use Rattle.std.proofs.Common.{rules, ap, sym, ◌∙◌}
 use Rattle.demi_buf.specs.Bufs.{BufValue}
 use Rattle.demi_heap_core.specs.declared.view.Guest.{Guest}
 use Rattle.demi_heap_core.specs.declared.view.View.{View}
-use Rattle.demi_heap_core.specs.Schedule.{LieApart}
-use Rattle.demi_heap_core.specs.Steps.{part_alone, part_of, bare, with_guest, with_half, without_guest}
+use Rattle.demi_heap_core.specs.Steps.{part_alone, part_of}
 use Rattle.demi_heap.specs.Told.{Seated}
 use Rattle.demi_heap.proofs.Allowed.{bares_allowed, comes_back_allowed, guest_goes_allowed, guest_comes_allowed, apart_allowed}
 use Rattle.demi_heap.proofs.apart.keep_apart.Goals as goal

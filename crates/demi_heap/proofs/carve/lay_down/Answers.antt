@@ -1,7 +1,7 @@
 use Rattle.std.proofs.Common.{◌≡◌, ℕ, ◌+◌, ◌-◌, ◌<◌, List, [], ◌∷◌, ◌++◌, length, sym, ap, ◌∙◌, subst, arith, refl}
 use Rattle.std.specs.Vec.{vec_ptr}
 use denote.RawPtr.{block_of}
-use Rattle.demi_buf.specs.Bufs.{BufValue, carved}
+use Rattle.demi_buf.specs.Bufs.{carved}
 use Rattle.demi_heap_core.specs.declared.shape.Superblock.{Superblock}
 use Rattle.demi_heap.specs.Laid.{counts_shape, EachLies, IsLaid}
 use Rattle.demi_heap.proofs.Laying.{total_snoc, lies_wider, lay_next}

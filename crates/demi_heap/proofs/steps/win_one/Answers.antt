@@ -1,9 +1,6 @@
-use Rattle.std.proofs.Common.{◌≡◌, rules, ap, ◌∙◌, subst, []}
-use Rattle.atomic_table.specs.Table.{Me}
-use Rattle.demi_heap_core.specs.Steps.{view_claimed}
+use Rattle.std.proofs.Common.{rules, ap, ◌∙◌, subst}
 use Rattle.demi_heap.specs.Rule.{Fits}
 use Rattle.demi_heap.specs.Told.{Seated, WasFree}
-use Rattle.demi_heap.specs.Seen.{looking_as}
 use Rattle.demi_heap.proofs.Looking.{looks_on, looks_won}
 use Rattle.demi_heap.proofs.steps.win_one.Goals as goal
 

@@ -1,4 +1,4 @@
-use Rattle.std.proofs.Common.{◌≡◌, ◌-◌, ◌∷◌, ◌++◌, length, take, drop, List, sym, ap, ◌∙◌, arith, length-append}
+use Rattle.std.proofs.Common.{◌-◌, ◌∷◌, ◌++◌, length, take, drop, List, sym, ap, ◌∙◌, arith, length-append}
 use Rattle.demi_heap.specs.Seen.{HalfValue}
 use Rattle.demi_sga.specs.Rows.{items}
 use Rattle.demi_sga.proofs.Lists.{parts, turned_right, turned_left}

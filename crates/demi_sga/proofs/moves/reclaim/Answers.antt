@@ -1,6 +1,6 @@
 use Rattle.std.proofs.Common.{◌≡◌, List, [], ◌∷◌, ◌++◌, length, sym, refl, ap, ◌∙◌, subst, arith, length-append}
 use Rattle.demi_heap.specs.Seen.{HalfValue}
-use Rattle.demi_sga.specs.Arrays.{AreOf, LentValue, byte_count, HeldAt}
+use Rattle.demi_sga.specs.Arrays.{LentValue, byte_count, HeldAt}
 use Rattle.demi_sga.specs.Rows.{items}
 use Rattle.demi_sga.proofs.Lists.{back_length, back_bytes, back_held, back_all, held_of}
 use Rattle.demi_sga.proofs.moves.reclaim.Goals as goal

@@ -1,5 +1,4 @@
-use Rattle.std.proofs.Common.{rules, ◌≡◌, ◌++◌, List, sym, subst}
-use Rattle.demi_heap.specs.Seen.{HalfValue}
+use Rattle.std.proofs.Common.{rules, ◌≡◌, ◌++◌, sym, subst}
 use Rattle.demi_sga.specs.Arrays.{AreOf}
 use Rattle.demi_sga.proofs.Lists.{append_of}
 use Rattle.demi_sga.proofs.app.AppSga.join.Goals as goal

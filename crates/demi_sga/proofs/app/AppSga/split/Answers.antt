@@ -1,5 +1,4 @@
-use Rattle.std.proofs.Common.{rules, ◌≡◌, List, take, drop, sym, subst}
-use Rattle.demi_heap.specs.Seen.{HalfValue}
+use Rattle.std.proofs.Common.{rules, ◌≡◌, take, drop, sym, subst}
 use Rattle.demi_sga.specs.Arrays.{AreOf}
 use Rattle.demi_sga.proofs.Lists.{of_parts}
 use Rattle.demi_sga.proofs.app.AppSga.split.Goals as goal
