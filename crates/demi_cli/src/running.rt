@@ -4,7 +4,8 @@ ghost use Rattle.demi_core.specs.World.{Link, Log, WorldState, after_links, afte
 ghost use Rattle.demi_cli.specs.Outcome.{is_pipe, log_name, reported, status_of};
 ghost use Rattle.demi_cli.specs.declared.serving.Fault.{Fault};
 ghost use Rattle.demi_cli.specs.Reading.{ReadsOnlyWhatIsDue};
-ghost use Rattle.demi_cli.specs.Run.{AtLink, with_link, Ran, outcome_of, Keeps, CannotOpen, BadLog, EmptyLog, LogFaulted, ReadFaulted, WriteFaulted, WholeRun, NoLink, Unlinked, StoppedRun, FrontRun, status_of_fault, Warned};
+ghost use Rattle.demi_cli.specs.Ended.{AtLink, Ran, outcome_of};
+ghost use Rattle.demi_cli.specs.Run.{with_link, Keeps, CannotOpen, BadLog, EmptyLog, LogFaulted, ReadFaulted, WriteFaulted, FinishedRun, NoLink, Unlinked, StoppedRun, FrontRun, status_of_fault, Warned};
 
 use crate::outcome::Outcome;
 use crate::reporting::report;
@@ -153,7 +154,7 @@ pub fn run<W: World>(alloc: Global, words: &Vec<String>, world: &mut W) -> u8
     ensures log_fault { result ≡ 4 → LogFaulted (W.state world.old) (W.state world.new) (log_name (map string_bytes words.now.items)) }
     ensures read_fault { result ≡ 2 → ReadFaulted (W.state world.old) (W.state world.new) }
     ensures write_fault { result ≡ 3 → WriteFaulted (W.state world.old) (W.state world.new) }
-    ensures whole { (result ≡ 0) ⊎ (result ≡ 6) → WholeRun (W.state world.old) (W.state world.new) (log_name (map string_bytes words.now.items)) result }
+    ensures whole { (result ≡ 0) ⊎ (result ≡ 6) → FinishedRun (W.state world.old) (W.state world.new) (log_name (map string_bytes words.now.items)) result }
     ensures stopped { (fault : Fault) → result ≡ status_of_fault fault
         → Unlinked fault (W.state world.old) (W.state world.new) (log_name (map string_bytes words.now.items))
         ⊎ StoppedRun fault (W.state world.old) (W.state world.new) (log_name (map string_bytes words.now.items)) }
