@@ -9,7 +9,8 @@ use Rattle.demi_cli.specs.declared.serving.Fault.TheVariants as fault
 use Rattle.demi_cli.specs.declared.outcome.Outcome.{Outcome}
 use Rattle.demi_cli.specs.declared.outcome.Outcome.TheVariants as outcome
 use Rattle.demi_cli.specs.Outcome.{status_of, reported}
-use Rattle.demi_cli.specs.Run.{Gave, A_log, Nothing, KeepsAll, with_link, Ends, Ran, headed, LogOf, LinkOf, NoLink, SameButWarned, Keeps, CannotOpen, BeforeLink, BadLog, EmptyLog, LogFaulted, ReadFaulted, WriteFaulted, outcome_at_end, WholeRun, status_of_fault, Unlinked, StoppedRun, Warned}
+use Rattle.demi_cli.specs.Ended.{AtOutcome, Ran}
+use Rattle.demi_cli.specs.Run.{Gave, A_log, Nothing, KeepsAll, with_link, headed, LogOf, LinkOf, NoLink, SameButWarned, Keeps, CannotOpen, BeforeLink, BadLog, EmptyLog, LogFaulted, ReadFaulted, WriteFaulted, outcome_at_end, FinishedRun, status_of_fault, Unlinked, StoppedRun, Warned}
 
 -- the outcome of a status
 abbrev outcome_at : ℕ → ℕ → Outcome
@@ -114,7 +115,7 @@ none_given old mid new name keeps same = let n = nothing old mid new name keeps 
 log_alone : (old mid new : WorldState) (name : List ℕ) (log kept : Log) → KeepsAll (A_log log kept None) name old mid → SameButWarned mid new → log.held ≡ 0 → contents_of kept ≡ contents_of (headed log) → BeforeLink old new name
 log_alone old mid new name log kept keeps same zero is = (no_link old mid new name log kept keeps same, inr (log_of old mid new name log kept None keeps same, zero, is))
 
-cannot_open_at : (old mid new : WorldState) (f0 f1 : ℕ) (name : List ℕ) (gave : Gave) → KeepsAll gave name old mid → SameButWarned mid new → Ends outcome.CannotOpen gave f0 f1 → CannotOpen old new name f0 f1
+cannot_open_at : (old mid new : WorldState) (f0 f1 : ℕ) (name : List ℕ) (gave : Gave) → KeepsAll gave name old mid → SameButWarned mid new → AtOutcome outcome.CannotOpen gave f0 f1 → CannotOpen old new name f0 f1
 cannot_open_at old mid new f0 f1 name Nothing keeps same ends = (ends, none_given old mid new name keeps same)
 cannot_open_at old mid new f0 f1 name (A_log log kept None) keeps same ends = (ends.1.0, log_alone old mid new name log kept keeps same ends.0 ends.1.1)
 cannot_open_at old mid new f0 f1 name (A_log log kept (Some p)) keeps same ends = absurd ends.1
@@ -122,9 +123,9 @@ cannot_open_at old mid new f0 f1 name (A_log log kept (Some p)) keeps same ends 
 pub cannot_open : (old mid new : WorldState) (f0 f1 : ℕ) (name : List ℕ) (o : Outcome) (n : ℕ) → Ran old mid f0 f1 name o → n ≡ status_of o → new ≡ reported o mid → n ≡ 8 → CannotOpen old new name f0 f1
 cannot_open old mid new f0 f1 name o n r status is e =
     let at : o ≡ outcome.CannotOpen = (is_at n 8 o status e).1 in
-    cannot_open_at old mid new f0 f1 name r.gave r.keeps (same_but o mid new is) (subst (λ (x : Outcome). Ends x r.gave f0 f1) at r.ends)
+    cannot_open_at old mid new f0 f1 name r.gave r.keeps (same_but o mid new is) (subst (λ (x : Outcome). AtOutcome x r.gave f0 f1) at r.ends)
 
-bad_log_at : (old mid new : WorldState) (f0 f1 : ℕ) (name : List ℕ) (gave : Gave) → KeepsAll gave name old mid → SameButWarned mid new → Ends outcome.BadLog gave f0 f1 → BadLog old new name
+bad_log_at : (old mid new : WorldState) (f0 f1 : ℕ) (name : List ℕ) (gave : Gave) → KeepsAll gave name old mid → SameButWarned mid new → AtOutcome outcome.BadLog gave f0 f1 → BadLog old new name
 bad_log_at old mid new f0 f1 name Nothing keeps same ends = absurd ends
 bad_log_at old mid new f0 f1 name (A_log log kept None) keeps same ends = (no_link old mid new name log kept keeps same, (log_of old mid new name log kept None keeps same, ends.0, ends.1))
 bad_log_at old mid new f0 f1 name (A_log log kept (Some p)) keeps same ends = absurd ends.1
@@ -132,9 +133,9 @@ bad_log_at old mid new f0 f1 name (A_log log kept (Some p)) keeps same ends = ab
 pub bad_log : (old mid new : WorldState) (f0 f1 : ℕ) (name : List ℕ) (o : Outcome) (n : ℕ) → Ran old mid f0 f1 name o → n ≡ status_of o → new ≡ reported o mid → n ≡ 7 → BadLog old new name
 bad_log old mid new f0 f1 name o n r status is e =
     let at : o ≡ outcome.BadLog = (is_at n 7 o status e).1 in
-    bad_log_at old mid new f0 f1 name r.gave r.keeps (same_but o mid new is) (subst (λ (x : Outcome). Ends x r.gave f0 f1) at r.ends)
+    bad_log_at old mid new f0 f1 name r.gave r.keeps (same_but o mid new is) (subst (λ (x : Outcome). AtOutcome x r.gave f0 f1) at r.ends)
 
-log_fault_at : (old mid new : WorldState) (f0 f1 : ℕ) (name : List ℕ) (gave : Gave) → KeepsAll gave name old mid → SameButWarned mid new → Ends outcome.LogFault gave f0 f1
+log_fault_at : (old mid new : WorldState) (f0 f1 : ℕ) (name : List ℕ) (gave : Gave) → KeepsAll gave name old mid → SameButWarned mid new → AtOutcome outcome.LogFault gave f0 f1
     → LogFaulted old new name × (Unlinked fault.Log old new name ⊎ StoppedRun fault.Log old new name)
 log_fault_at old mid new f0 f1 name Nothing keeps same ends = absurd ends
 log_fault_at old mid new f0 f1 name (A_log log kept None) keeps same ends =
@@ -148,12 +149,12 @@ log_faulted : (old mid new : WorldState) (f0 f1 : ℕ) (name : List ℕ) (o : Ou
     → LogFaulted old new name × (Unlinked fault.Log old new name ⊎ StoppedRun fault.Log old new name)
 log_faulted old mid new f0 f1 name o n r status is e =
     let at : o ≡ outcome.LogFault = (is_at n 4 o status e).1 in
-    log_fault_at old mid new f0 f1 name r.gave r.keeps (same_but o mid new is) (subst (λ (x : Outcome). Ends x r.gave f0 f1) at r.ends)
+    log_fault_at old mid new f0 f1 name r.gave r.keeps (same_but o mid new is) (subst (λ (x : Outcome). AtOutcome x r.gave f0 f1) at r.ends)
 
 pub log_fault : (old mid new : WorldState) (f0 f1 : ℕ) (name : List ℕ) (o : Outcome) (n : ℕ) → Ran old mid f0 f1 name o → n ≡ status_of o → new ≡ reported o mid → n ≡ 4 → LogFaulted old new name
 log_fault old mid new f0 f1 name o n r status is e = (log_faulted old mid new f0 f1 name o n r status is e).0
 
-read_fault_at : (old mid new : WorldState) (f0 f1 : ℕ) (name : List ℕ) (gave : Gave) → KeepsAll gave name old mid → SameButWarned mid new → Ends outcome.ReadFault gave f0 f1
+read_fault_at : (old mid new : WorldState) (f0 f1 : ℕ) (name : List ℕ) (gave : Gave) → KeepsAll gave name old mid → SameButWarned mid new → AtOutcome outcome.ReadFault gave f0 f1
     → ReadFaulted old new × StoppedRun fault.Read old new name
 read_fault_at old mid new f0 f1 name Nothing keeps same ends = absurd ends
 read_fault_at old mid new f0 f1 name (A_log log kept None) keeps same ends = absurd ends.1
@@ -165,12 +166,12 @@ read_faulted : (old mid new : WorldState) (f0 f1 : ℕ) (name : List ℕ) (o : O
     → ReadFaulted old new × StoppedRun fault.Read old new name
 read_faulted old mid new f0 f1 name o n r status is e =
     let at : o ≡ outcome.ReadFault = (is_at n 2 o status e).1 in
-    read_fault_at old mid new f0 f1 name r.gave r.keeps (same_but o mid new is) (subst (λ (x : Outcome). Ends x r.gave f0 f1) at r.ends)
+    read_fault_at old mid new f0 f1 name r.gave r.keeps (same_but o mid new is) (subst (λ (x : Outcome). AtOutcome x r.gave f0 f1) at r.ends)
 
 pub read_fault : (old mid new : WorldState) (f0 f1 : ℕ) (name : List ℕ) (o : Outcome) (n : ℕ) → Ran old mid f0 f1 name o → n ≡ status_of o → new ≡ reported o mid → n ≡ 2 → ReadFaulted old new
 read_fault old mid new f0 f1 name o n r status is e = (read_faulted old mid new f0 f1 name o n r status is e).0
 
-write_fault_at : (old mid new : WorldState) (f0 f1 : ℕ) (name : List ℕ) (gave : Gave) → KeepsAll gave name old mid → SameButWarned mid new → Ends outcome.WriteFault gave f0 f1
+write_fault_at : (old mid new : WorldState) (f0 f1 : ℕ) (name : List ℕ) (gave : Gave) → KeepsAll gave name old mid → SameButWarned mid new → AtOutcome outcome.WriteFault gave f0 f1
     → WriteFaulted old new × StoppedRun fault.Write old new name
 write_fault_at old mid new f0 f1 name Nothing keeps same ends = absurd ends
 write_fault_at old mid new f0 f1 name (A_log log kept None) keeps same ends = absurd ends.1
@@ -182,12 +183,12 @@ write_faulted : (old mid new : WorldState) (f0 f1 : ℕ) (name : List ℕ) (o : 
     → WriteFaulted old new × StoppedRun fault.Write old new name
 write_faulted old mid new f0 f1 name o n r status is e =
     let at : o ≡ outcome.WriteFault = (is_at n 3 o status e).1 in
-    write_fault_at old mid new f0 f1 name r.gave r.keeps (same_but o mid new is) (subst (λ (x : Outcome). Ends x r.gave f0 f1) at r.ends)
+    write_fault_at old mid new f0 f1 name r.gave r.keeps (same_but o mid new is) (subst (λ (x : Outcome). AtOutcome x r.gave f0 f1) at r.ends)
 
 pub write_fault : (old mid new : WorldState) (f0 f1 : ℕ) (name : List ℕ) (o : Outcome) (n : ℕ) → Ran old mid f0 f1 name o → n ≡ status_of o → new ≡ reported o mid → n ≡ 3 → WriteFaulted old new
 write_fault old mid new f0 f1 name o n r status is e = (write_faulted old mid new f0 f1 name o n r status is e).0
 
-no_memory_at : (old mid new : WorldState) (f0 f1 : ℕ) (name : List ℕ) (gave : Gave) → KeepsAll gave name old mid → SameButWarned mid new → Ends outcome.NoMemory gave f0 f1
+no_memory_at : (old mid new : WorldState) (f0 f1 : ℕ) (name : List ℕ) (gave : Gave) → KeepsAll gave name old mid → SameButWarned mid new → AtOutcome outcome.NoMemory gave f0 f1
     → Unlinked fault.NoMemory old new name ⊎ StoppedRun fault.NoMemory old new name
 no_memory_at old mid new f0 f1 name Nothing keeps same ends = inl (none_given old mid new name keeps same)
 no_memory_at old mid new f0 f1 name (A_log log kept None) keeps same ends =
@@ -202,10 +203,10 @@ stopped old mid new f0 f1 name o n r status is fault.Write e = inr (write_faulte
 stopped old mid new f0 f1 name o n r status is fault.Log e = (log_faulted old mid new f0 f1 name o n r status is e).1
 stopped old mid new f0 f1 name o n r status is fault.NoMemory e =
     let at : o ≡ outcome.NoMemory = (is_at n 5 o status e).1 in
-    no_memory_at old mid new f0 f1 name r.gave r.keeps (same_but o mid new is) (subst (λ (x : Outcome). Ends x r.gave f0 f1) at r.ends)
+    no_memory_at old mid new f0 f1 name r.gave r.keeps (same_but o mid new is) (subst (λ (x : Outcome). AtOutcome x r.gave f0 f1) at r.ends)
 
 whole_at : (old mid new : WorldState) (f0 f1 : ℕ) (name : List ℕ) (code : Option ℕ) (n : ℕ) (gave : Gave) → KeepsAll gave name old mid → SameButWarned mid new → n ≡ status_of (outcome_at_end code)
-    → new.warned ≡ (reported (outcome_at_end code) old).warned → Ends (outcome_at_end code) gave f0 f1 → WholeRun old new name n
+    → new.warned ≡ (reported (outcome_at_end code) old).warned → AtOutcome (outcome_at_end code) gave f0 f1 → FinishedRun old new name n
 whole_at old mid new f0 f1 name None n Nothing keeps same status text ends = absurd ends
 whole_at old mid new f0 f1 name (Some code) n Nothing keeps same status text ends = absurd ends
 whole_at old mid new f0 f1 name None n (A_log log kept None) keeps same status text ends = absurd ends.1
@@ -229,17 +230,17 @@ whole_at old mid new f0 f1 name (Some code) n (A_log log kept (Some p)) keeps sa
   warned_is = text;
 }
 
-whole_from : (old mid new : WorldState) (f0 f1 : ℕ) (name : List ℕ) (o : Outcome) (n : ℕ) (code : Option ℕ) → Ran old mid f0 f1 name o → n ≡ status_of o → new ≡ reported o mid → o ≡ outcome_at_end code → WholeRun old new name n
+whole_from : (old mid new : WorldState) (f0 f1 : ℕ) (name : List ℕ) (o : Outcome) (n : ℕ) (code : Option ℕ) → Ran old mid f0 f1 name o → n ≡ status_of o → new ≡ reported o mid → o ≡ outcome_at_end code → FinishedRun old new name n
 whole_from old mid new f0 f1 name o n code r status is at =
     whole_at old mid new f0 f1 name code n r.gave r.keeps (same_but o mid new is) (status ∙ ap status_of at) (warning old mid new f0 f1 name o r is ∙ ap (λ (x : Outcome). (reported x old).warned) at)
-    (subst (λ (x : Outcome). Ends x r.gave f0 f1) at r.ends)
+    (subst (λ (x : Outcome). AtOutcome x r.gave f0 f1) at r.ends)
 
-pub whole : (old mid new : WorldState) (f0 f1 : ℕ) (name : List ℕ) (o : Outcome) (n : ℕ) → Ran old mid f0 f1 name o → n ≡ status_of o → new ≡ reported o mid → (n ≡ 0) ⊎ (n ≡ 6) → WholeRun old new name n
+pub whole : (old mid new : WorldState) (f0 f1 : ℕ) (name : List ℕ) (o : Outcome) (n : ℕ) → Ran old mid f0 f1 name o → n ≡ status_of o → new ≡ reported o mid → (n ≡ 0) ⊎ (n ≡ 6) → FinishedRun old new name n
 whole old mid new f0 f1 name o n r status is (inl e) = whole_from old mid new f0 f1 name o n None r status is (is_at n 0 o status e).1
 whole old mid new f0 f1 name o n r status is (inr e) = let b = is_at n 6 o status e in whole_from old mid new f0 f1 name o n (Some b.0) r status is b.1
 
 -- a log that is not empty
-empty_at : (old mid new : WorldState) (f0 f1 : ℕ) (name : List ℕ) (o : Outcome) (gave : Gave) → KeepsAll gave name old mid → SameButWarned mid new → o ≢ outcome.BadLog → o ≢ outcome.LogFault → Ends o gave f0 f1 → EmptyLog old new name
+empty_at : (old mid new : WorldState) (f0 f1 : ℕ) (name : List ℕ) (o : Outcome) (gave : Gave) → KeepsAll gave name old mid → SameButWarned mid new → o ≢ outcome.BadLog → o ≢ outcome.LogFault → AtOutcome o gave f0 f1 → EmptyLog old new name
 empty_at old mid new f0 f1 name o Nothing keeps same a b ends = inl (nothing old mid new name keeps same).1
 empty_at old mid new f0 f1 name outcome.BadLog (A_log log kept link) keeps same a b ends = absurd (a refl)
 empty_at old mid new f0 f1 name outcome.LogFault (A_log log kept link) keeps same a b ends = absurd (b refl)
@@ -256,7 +257,7 @@ good_log old mid new f0 f1 name o n r status is seven four =
     empty_at old mid new f0 f1 name o r.gave r.keeps (same_but o mid new is) (λ e. seven (status ∙ ap status_of e)) (λ e. four (status ∙ ap status_of e)) r.ends
 
 -- a run of `pipe` is no usage
-not_usage_at : (gave : Gave) (f0 f1 : ℕ) → Ends outcome.Usage gave f0 f1 → ⊥
+not_usage_at : (gave : Gave) (f0 f1 : ℕ) → AtOutcome outcome.Usage gave f0 f1 → ⊥
 not_usage_at Nothing f0 f1 ends = ends
 not_usage_at (A_log log kept None) f0 f1 ends = ends.1
 not_usage_at (A_log log kept (Some p)) f0 f1 ends = ends.1
@@ -264,4 +265,4 @@ not_usage_at (A_log log kept (Some p)) f0 f1 ends = ends.1
 pub not_usage : (old mid : WorldState) (f0 f1 : ℕ) (name : List ℕ) (o : Outcome) (n : ℕ) → Ran old mid f0 f1 name o → n ≡ status_of o → n ≡ 1 → ⊥
 not_usage old mid f0 f1 name o n r status e =
     let at : o ≡ outcome.Usage = (is_at n 1 o status e).1 in
-    not_usage_at r.gave f0 f1 (subst (λ (x : Outcome). Ends x r.gave f0 f1) at r.ends)
+    not_usage_at r.gave f0 f1 (subst (λ (x : Outcome). AtOutcome x r.gave f0 f1) at r.ends)

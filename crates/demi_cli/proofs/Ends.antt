@@ -6,14 +6,15 @@ use Rattle.demi_core.specs.World.{Link, Log}
 use Rattle.demi_spec.specs.Input.{Asked}
 use Rattle.demi_store.specs.Contents.{Contents, grown}
 use Rattle.demi_spec.specs.LogText.{header}
-use Rattle.demi_cli.specs.Serving.{Whole, Stopped, Stands, Logs, contents_of}
+use Rattle.demi_cli.specs.Serving.{Finished, Stopped, Stands, Logs, contents_of}
 use Rattle.demi_cli.specs.declared.serving.Fault.{Fault}
 use Rattle.demi_cli.specs.declared.serving.Fault.TheVariants as fault
 use Rattle.demi_cli.specs.declared.outcome.Outcome.{Outcome}
 use Rattle.demi_cli.specs.declared.outcome.Outcome.TheVariants as outcome
-use Rattle.demi_cli.specs.Run.{A_log, AtLink, Ends, headed, outcome_of}
+use Rattle.demi_cli.specs.Run.{A_log, headed}
+use Rattle.demi_cli.specs.Ended.{AtLink, AtOutcome, outcome_of}
 
-pub at_link : (end : Result (Option ℕ) Fault) (link kept : Link) (log kept_log : Log) (f0 f1 : ℕ) → IfOk end (λ code. Whole link kept log kept_log code) → IfErr end (λ f. Stopped f link kept log kept_log)
+pub at_link : (end : Result (Option ℕ) Fault) (link kept : Link) (log kept_log : Log) (f0 f1 : ℕ) → IfOk end (λ code. Finished link kept log kept_log code) → IfErr end (λ f. Stopped f link kept log kept_log)
     → AtLink (outcome_of end) (Some (link, kept)) log kept_log f0 f1
 at_link (Ok None) link kept log kept_log f0 f1 whole stopped = whole
 at_link (Ok (Some code)) link kept log kept_log f0 f1 whole stopped = whole
@@ -23,7 +24,7 @@ at_link (Err fault.Log) link kept log kept_log f0 f1 whole stopped = stopped
 at_link (Err fault.NoMemory) link kept log kept_log f0 f1 whole stopped = stopped
 
 pub at_link_is : (o : Outcome) (end : Result (Option ℕ) Fault) (link kept : Link) (log kept_log : Log) (f0 f1 : ℕ) → o ≡ outcome_of end
-    → IfOk end (λ code. Whole link kept log kept_log code) → IfErr end (λ f. Stopped f link kept log kept_log) → AtLink o (Some (link, kept)) log kept_log f0 f1
+    → IfOk end (λ code. Finished link kept log kept_log code) → IfErr end (λ f. Stopped f link kept log kept_log) → AtLink o (Some (link, kept)) log kept_log f0 f1
 at_link_is o end link kept log kept_log f0 f1 is whole stopped =
     subst (λ (x : Outcome). AtLink x (Some (link, kept)) log kept_log f0 f1) (sym is) (at_link end link kept log kept_log f0 f1 whole stopped)
 
@@ -31,7 +32,7 @@ at_link_is o end link kept log kept_log f0 f1 is whole stopped =
 logs_from : (log log' kept_log : Log) (text : List ℕ) → contents_of log ≡ contents_of log' → Logs log kept_log text → Logs log' kept_log text
 logs_from log log' kept_log text same is = is ∙ ap (λ (c : Contents). grown c text) same
 
-whole_from : (link kept : Link) (log log' kept_log : Log) (code : Option ℕ) → contents_of log ≡ contents_of log' → Whole link kept log kept_log code → Whole link kept log' kept_log code
+whole_from : (link kept : Link) (log log' kept_log : Log) (code : Option ℕ) → contents_of log ≡ contents_of log' → Finished link kept log kept_log code → Finished link kept log' kept_log code
 whole_from link kept log log' kept_log code same w = record {
   taken = w.taken;
   ended = w.ended;
@@ -70,7 +71,7 @@ stopped_from f link kept log log' kept_log same le s = record {
 }
 
 pub ends_headed : (o : Outcome) (link : Option (Link × Link)) (log mid kept : Log) (f0 f1 f2 f3 : ℕ) → log.held ≡ 0 → contents_of mid ≡ grown (contents_of log) header → log.faults ≤ mid.faults
-    → f0 ≤ f1 → f3 ≡ f2 → AtLink o link mid kept f1 f2 → Ends o (A_log log kept link) f0 f3
+    → f0 ≤ f1 → f3 ≡ f2 → AtLink o link mid kept f1 f2 → AtOutcome o (A_log log kept link) f0 f3
 ends_headed outcome.Served (Some p) log mid kept f0 f1 f2 f3 zero same le f e at = (zero, whole_from p.0 p.1 mid (headed log) kept None same at)
 ends_headed (outcome.Refused code) (Some p) log mid kept f0 f1 f2 f3 zero same le f e at = (zero, whole_from p.0 p.1 mid (headed log) kept (Some code) same at)
 ends_headed outcome.ReadFault (Some p) log mid kept f0 f1 f2 f3 zero same le f e at = (zero, stopped_from fault.Read p.0 p.1 mid (headed log) kept same le at)

@@ -1,11 +1,11 @@
 -- The reads of a run over one link, from turn to turn.
-use Rattle.std.proofs.Common.{subst, ◌≡◌, ℕ, zero, suc, ◌+◌, ◌<◌, ◌≤◌, false, List, [], ◌∷◌, ◌++◌, length, take, map, Option, Some, None, refl, ap, sym, ◌∙◌, arith, flat_map, append_assoc, length-append, ◌⊎◌, inl, inr}
-use Rattle.std.specs.Prelude.{unwrap_or, Result, Ok, Err, IfOk, IfErr, OnErr}
+use Rattle.std.proofs.Common.{subst, ◌≡◌, ℕ, ◌+◌, ◌<◌, ◌≤◌, false, List, [], ◌∷◌, ◌++◌, length, take, map, Option, Some, refl, ap, sym, ◌∙◌, arith, flat_map, append_assoc, length-append, ◌⊎◌, inl, inr}
+use Rattle.std.specs.Prelude.{unwrap_or, Result, Ok, Err, IfOk, IfErr}
 use Rattle.std.specs.Io.KnownBytes.{prepend_known, append_known}
 use Rattle.std.proofs.lemmas.List.{append-nil, map-append, take-append-le, take_all}
 use Rattle.std.proofs.lemmas.Grind.{flat_map-append}
 use Rattle.demi_core.specs.Outside.{Reads, bytes_given}
-use Rattle.demi_core.specs.World.{Link, WorldState}
+use Rattle.demi_core.specs.World.{Link, SameSources, WorldState}
 use Rattle.demi_spec.specs.Request.{Request, AllGoOn, spelling}
 use Rattle.demi_spec.specs.Input.{Open, Ends, Parses, Takes, Asked, Request_of, front}
 use Rattle.demi_spec.specs.Record.{Record}
@@ -14,7 +14,7 @@ use Rattle.demi_store.specs.Contents.{Contents}
 use Rattle.demi_store.proofs.Growth.{append-none}
 use Rattle.demi_cli.specs.declared.serving.Fault.{Fault}
 use Rattle.demi_cli.specs.declared.serving.Fault.TheVariants as fault
-use Rattle.demi_cli.specs.Serving.{Took, Says, said_to, reply_on, next_reply}
+use Rattle.demi_cli.specs.Serving.{said_to, reply_on, next_reply}
 use Rattle.demi_cli.specs.Steps.{Broke, SaysFront, asks_of}
 use Rattle.demi_cli.specs.Reading.{GaveSome, EachGaveSome, IsDue, EachIsDue, OnlyDueReads, ReadsOnlyWhatIsDue}
 use Rattle.demi_cli.specs.Run.{LinkOf}
@@ -185,12 +185,14 @@ pub end_says : (P : Option ℕ → Type 0) (Q : Fault → Type 0) (r : Result (O
 end_says P Q (Ok code) records n ask w0 w1 whole part = (reply_on records n ask, whole.1)
 end_says P Q (Err f) records n ask w0 w1 whole part = (take part.1.0 (reply_on records n ask), part.1.2)
 
--- the same from and to states that tell the same of links
-pub only_between : {Source : Type 0} (read : Source → ℕ → Option (List ℕ) → Source → Type 0) (taken : Source → ℕ) (left : Source → Option (List ℕ)) (faults : Source → ℕ) (old old' new new' : WorldState)
-    → ReadsOnlyWhatIsDue read taken left faults old new → old'.given_links ≡ old.given_links → new'.given_links ≡ new.given_links → new'.kept_link 0 ≡ new.kept_link 0
-    → ReadsOnlyWhatIsDue read taken left faults old' new'
-only_between read taken left faults old old' new new' (inl none) before after keeps = inl (after ∙ none ∙ sym before)
-only_between read taken left faults old old' new new' (inr r) before after keeps =
+-- the same from and to worlds that tell the same of links
+pub only_between : {Source : Type 0} (read : Source → ℕ → Option (List ℕ) → Source → Type 0) (taken : Source → ℕ) (left : Source → Option (List ℕ)) (faults : Source → ℕ)
+    (next next' kept kept' : ℕ → Source → Type 0) (old old' new new' : WorldState)
+    → ReadsOnlyWhatIsDue read taken left faults next kept old new → SameSources next' next → SameSources kept kept'
+    → old'.given_links ≡ old.given_links → new'.given_links ≡ new.given_links → new'.kept_link 0 ≡ new.kept_link 0
+    → ReadsOnlyWhatIsDue read taken left faults next' kept' old' new'
+only_between read taken left faults next next' kept kept' old old' new new' (inl none) same_next same_kept before after keeps = inl (after ∙ none ∙ sym before)
+only_between read taken left faults next next' kept kept' old old' new new' (inr r) same_next same_kept before after keeps =
     let l : LinkOf old new = r.of_link in
     inr (record {
       of_link = record {
@@ -200,8 +202,14 @@ only_between read taken left faults old old' new new' (inr r) before after keeps
         keeps = keeps ∙ l.keeps;
       };
       source = r.source;
-      given = r.given;
-      source_kept = r.source_kept;
-      kept = r.kept;
+      source_given = (same_next 0 r.source).1 r.source_given;
+      given_is = r.given_is;
+      after = r.after;
+      source_kept = (same_kept 0 r.after).0 r.source_kept;
+      kept_is = r.kept_is;
       only = r.only;
     })
+
+-- the sources of a world stay
+pub same_still : {Source : Type 0} (sources : ℕ → Source → Type 0) → SameSources sources sources
+same_still sources number source = (λ is. is, λ is. is)

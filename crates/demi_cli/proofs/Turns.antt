@@ -17,25 +17,25 @@ use Rattle.demi_core.specs.World.{Link, Log}
 use Rattle.demi_store.specs.Contents.{Contents}
 use Rattle.demi_store.proofs.Growth.{none_grown}
 use Rattle.demi_cli.specs.declared.serving.Fault.{Fault}
-use Rattle.demi_cli.specs.Serving.{Whole, AtEnd, contents_of, reply_on}
+use Rattle.demi_cli.specs.Serving.{Finished, AtEnd, contents_of, reply_on}
 use Rattle.demi_cli.specs.Steps.{SoFar, Answered}
 use Rattle.demi_cli.proofs.Wholes.{whole_end, whole_refused}
 
 -- a refused frame
 pub refused_whole : (r : Result (Option ℕ) Fault) (link kept : Link) (log kept_log : Log) (rest : List ℕ) (w : Option (List ℕ)) (n : ℕ) (records : List Record) (ended : Bool) (code : ℕ)
     → SoFar link.left kept.left link.taken kept.taken rest link.written w (contents_of log) (contents_of kept_log) n records → front ended rest ≡ Ends (Refused code) → (IsTrue ended → AtEnd kept)
-    → IfOk r (λ said. (said ≡ Some code) × (kept.written ≡ append_known w (reply_on [] n (Refused_end code)))) → IfOk r (λ c. Whole link kept log kept_log c)
+    → IfOk r (λ said. (said ≡ Some code) × (kept.written ≡ append_known w (reply_on [] n (Refused_end code)))) → IfOk r (λ c. Finished link kept log kept_log c)
 refused_whole (Err f) link kept log kept_log rest w n records ended code s ends end said = tt
 refused_whole (Ok c) link kept log kept_log rest w n records ended code s ends end said =
-    subst (λ (x : Option ℕ). Whole link kept log kept_log x) (sym said.0) (whole_refused link kept log kept_log rest w n records ended code s ends end said.1)
+    subst (λ (x : Option ℕ). Finished link kept log kept_log x) (sym said.0) (whole_refused link kept log kept_log rest w n records ended code s ends end said.1)
 
 -- an end frame
 pub bye_whole : (r : Result (Option ℕ) Fault) (link kept : Link) (log kept_log : Log) (rest after : List ℕ) (w : Option (List ℕ)) (n : ℕ) (records : List Record)
     → SoFar link.left kept.left link.taken kept.taken rest link.written w (contents_of log) (contents_of kept_log) n records → Takes rest End after
-    → IfOk r (λ said. (said ≡ None) × (kept.written ≡ append_known w (reply_on [] n (Request_of End)))) → IfOk r (λ c. Whole link kept log kept_log c)
+    → IfOk r (λ said. (said ≡ None) × (kept.written ≡ append_known w (reply_on [] n (Request_of End)))) → IfOk r (λ c. Finished link kept log kept_log c)
 bye_whole (Err f) link kept log kept_log rest after w n records s takes said = tt
 bye_whole (Ok c) link kept log kept_log rest after w n records s takes said =
-    subst (λ (x : Option ℕ). Whole link kept log kept_log x) (sym said.0) (whole_end link kept log kept_log rest after w n records s takes said.1)
+    subst (λ (x : Option ℕ). Finished link kept log kept_log x) (sym said.0) (whole_end link kept log kept_log rest after w n records s takes said.1)
 
 -- a get adds nothing
 pub get_answered : (records : List Record) (n : ℕ) (key : List ℕ) (w1 w2 : Option (List ℕ)) (c : Contents) → w2 ≡ append_known w1 (reply_on records n (Request_of (Get key))) → Answered records records n (Request_of (Get key)) w1 w2 c c

@@ -11,7 +11,7 @@ use Rattle.demi_frame.specs.Decoding as frame
 use Rattle.demi_core.specs.World.{Link, Log}
 use Rattle.demi_store.specs.Contents.{grown}
 use Rattle.demi_store.proofs.Growth.{append-none}
-use Rattle.demi_cli.specs.Serving.{Whole, AtEnd, contents_of, said_to, logged_for, code_of, next_reply, reply_on}
+use Rattle.demi_cli.specs.Serving.{Finished, AtEnd, contents_of, said_to, logged_for, refused_code, next_reply, reply_on}
 use Rattle.demi_cli.specs.Steps.{SoFar, asks_of}
 use Rattle.demi_cli.proofs.SoFars.{chained, said_push, logged_push, count_asks}
 
@@ -28,7 +28,7 @@ whole_by : (link kept : Link) (log kept_log : Log) (rest : List ℕ) (w : Option
     → kept.written ≡ append_known w text
     → said_to (asks_of s.requests ++ asked_of more how) ≡ said_to (asks_of s.requests) ++ text
     → logged_for (asks_of s.requests ++ asked_of more how) ≡ logged_for (asks_of s.requests)
-    → Whole link kept log kept_log (code_of how)
+    → Finished link kept log kept_log (refused_code how)
 whole_by link kept log kept_log rest w n records s more how ended text parses closed end said told logged =
     let rs : List Request = s.requests in
     let taken : List ℕ = flat_map spelling rs ++ rest in
@@ -51,7 +51,7 @@ whole_by link kept log kept_log rest w n records s more how ended text parses cl
 -- an end frame was answered
 pub whole_end : (link kept : Link) (log kept_log : Log) (rest after : List ℕ) (w : Option (List ℕ)) (n : ℕ) (records : List Record)
     → SoFar link.left kept.left link.taken kept.taken rest link.written w (contents_of log) (contents_of kept_log) n records → Takes rest End after
-    → kept.written ≡ append_known w (reply_on [] n (Request_of End)) → Whole link kept log kept_log None
+    → kept.written ≡ append_known w (reply_on [] n (Request_of End)) → Finished link kept log kept_log None
 whole_end link kept log kept_log rest after w n records s takes said =
     let asks : List Asked = asks_of s.requests in
     let here : next_reply asks (Request_of End) ≡ reply_on [] n (Request_of End) = ap (λ m. reply_on [] m (Request_of End)) (sym (count_asks n s.requests s.count_is)) in
@@ -61,7 +61,7 @@ whole_end link kept log kept_log rest after w n records s takes said =
 -- a refused frame was answered
 pub whole_refused : (link kept : Link) (log kept_log : Log) (rest : List ℕ) (w : Option (List ℕ)) (n : ℕ) (records : List Record) (ended : Bool) (code : ℕ)
     → SoFar link.left kept.left link.taken kept.taken rest link.written w (contents_of log) (contents_of kept_log) n records → front ended rest ≡ Ends (Refused code) → (IsTrue ended → AtEnd kept)
-    → kept.written ≡ append_known w (reply_on [] n (Refused_end code)) → Whole link kept log kept_log (Some code)
+    → kept.written ≡ append_known w (reply_on [] n (Refused_end code)) → Finished link kept log kept_log (Some code)
 whole_refused link kept log kept_log rest w n records ended code s ends end said =
     let asks : List Asked = asks_of s.requests in
     let here : next_reply asks (Refused_end code) ≡ reply_on [] n (Refused_end code) = ap (λ m. reply_on [] m (Refused_end code)) (sym (count_asks n s.requests s.count_is)) in
@@ -70,7 +70,7 @@ whole_refused link kept log kept_log rest w n records ended code s ends end said
 
 -- the input ended where it may
 whole_clean : (link kept : Link) (log kept_log : Log) (rest : List ℕ) (n : ℕ) (records : List Record)
-    → SoFar link.left kept.left link.taken kept.taken rest link.written kept.written (contents_of log) (contents_of kept_log) n records → front true rest ≡ Ends Clean → AtEnd kept → Whole link kept log kept_log None
+    → SoFar link.left kept.left link.taken kept.taken rest link.written kept.written (contents_of log) (contents_of kept_log) n records → front true rest ≡ Ends Clean → AtEnd kept → Finished link kept log kept_log None
 whole_clean link kept log kept_log rest n records s ends end =
     let asks : List Asked = asks_of s.requests in
     whole_by link kept log kept_log rest kept.written n records s [] Clean true [] ends (λ e. cc) (λ _. end) (append-none kept.written)
@@ -92,7 +92,7 @@ ended_refused code rest is_open is =
 
 pub whole_none : (link kept : Link) (log kept_log : Log) (rest : List ℕ) (n : ℕ) (records : List Record)
     → SoFar link.left kept.left link.taken kept.taken rest link.written kept.written (contents_of log) (contents_of kept_log) n records
-    → front false rest ≡ Ends Open → None ≡ frame.code_of (front true rest) → AtEnd kept → Whole link kept log kept_log None
+    → front false rest ≡ Ends Open → None ≡ frame.code_of (front true rest) → AtEnd kept → Finished link kept log kept_log None
 whole_none link kept log kept_log rest n records s is_open is end =
     let ends : front true rest ≡ Ends (ending_of rest) = open_ends rest is_open in
     whole_clean link kept log kept_log rest n records s (ends ∙ ap Ends (none_at rest (is ∙ ap frame.code_of ends))) end

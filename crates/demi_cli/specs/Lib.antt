@@ -2,5 +2,6 @@ pub mod Serving
 pub mod Steps
 pub mod Outcome
 pub mod Run
+pub mod Ended
 pub mod Real
 pub mod Reading

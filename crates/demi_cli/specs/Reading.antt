@@ -50,16 +50,20 @@ pub record SourceOf {Source : Type 0} (taken : Source → ℕ) (left : Source �
 abbrev pub room_bytes : ℕ
 room_bytes = 4096
 
--- the same in a run, of the link that the world gave and keeps, between the source as it was given and as it is kept
+-- The same in a run, of the link that the world gave and keeps, between the source as it was given and as it is kept.
+-- `next` are the sources that the world was to give next before the run, `kept` those that it keeps after it.
 pub record ReadOnlyDue {Source : Type 0} (read : Source → ℕ → Option (List ℕ) → Source → Type 0) (taken : Source → ℕ) (left : Source → Option (List ℕ)) (faults : Source → ℕ)
-    (old new : WorldState) : Type 0 where
+    (next kept : ℕ → Source → Type 0) (old new : WorldState) : Type 0 where
   pub of_link : LinkOf old new
   pub source : Source
-  pub given : SourceOf taken left faults source of_link.link
-  pub source_kept : Source
-  pub kept : SourceOf taken left faults source_kept of_link.kept
-  pub only : OnlyDueReads read room_bytes source source_kept of_link.link of_link.kept
+  pub source_given : next 0 source
+  pub given_is : SourceOf taken left faults source of_link.link
+  pub after : Source
+  pub source_kept : kept 0 after
+  pub kept_is : SourceOf taken left faults after of_link.kept
+  pub only : OnlyDueReads read room_bytes source after of_link.link of_link.kept
 
 -- Nothing more of a link is read after an end frame, a refused frame, the end of the input or a fault.
-abbrev pub ReadsOnlyWhatIsDue : {Source : Type 0} → (Source → ℕ → Option (List ℕ) → Source → Type 0) → (Source → ℕ) → (Source → Option (List ℕ)) → (Source → ℕ) → WorldState → WorldState → Type 0
-ReadsOnlyWhatIsDue read taken left faults old new = NoLink old new ⊎ ReadOnlyDue read taken left faults old new
+abbrev pub ReadsOnlyWhatIsDue : {Source : Type 0} → (Source → ℕ → Option (List ℕ) → Source → Type 0) → (Source → ℕ) → (Source → Option (List ℕ)) → (Source → ℕ)
+    → (ℕ → Source → Type 0) → (ℕ → Source → Type 0) → WorldState → WorldState → Type 0
+ReadsOnlyWhatIsDue read taken left faults next kept old new = NoLink old new ⊎ ReadOnlyDue read taken left faults next kept old new

@@ -1,71 +1,18 @@
--- What a run of `pipe LOG` did, by what the world gave and what it keeps.
-use Rattle.std.specs.Prelude.{Bool, ◌≡◌, ◌≢◌, ℕ, ◌+◌, ◌⊎◌, List, [], ◌∷◌, ◌++◌, Option, Some, None, Result, Ok, Err}
+-- What each exit status of `pipe LOG` says, by what the world gave and what it keeps. First the words for what was given
+-- and kept, then what holds whatever the status, then status by status.
+use Rattle.std.specs.Prelude.{Bool, ◌≡◌, ◌≢◌, ℕ, ◌+◌, ◌⊎◌, List, [], ◌∷◌, ◌++◌, Option, Some, None}
 use Rattle.std.specs.Io.KnownBytes.{append_known}
 use Rattle.demi_core.specs.Outside.{Rose}
 use Rattle.demi_core.specs.World.{WorldState, Link, Log, after_links, after_keep_link, after_log, after_keep_log, LogRefused}
 use Rattle.demi_spec.specs.LogText.{header}
 use Rattle.demi_store.specs.Plain.{HeadedInPart}
 use Rattle.demi_spec.specs.Input.{asked}
-use Rattle.demi_cli.specs.Serving.{Whole, Stopped, Took, Says, said_to, contents_of}
+use Rattle.demi_cli.specs.Serving.{Finished, Stopped, Took, Says, said_to, contents_of}
 use Rattle.demi_cli.specs.declared.serving.Fault.{Fault}
 use Rattle.demi_cli.specs.declared.serving.Fault.TheVariants as fault
 use Rattle.demi_cli.specs.declared.outcome.Outcome.{Outcome}
 use Rattle.demi_cli.specs.declared.outcome.Outcome.TheVariants as outcome
 use Rattle.demi_cli.specs.Outcome.{status_of, reported}
-
--- what the world gave in a run, and as what it keeps it: nothing, a log, or a log and a link
-pub data Gave : Type 0 where
-  Nothing : Gave
-  A_log : (log kept : Log) (link : Option (Link × Link)) → Gave
-
-abbrev pub with_link : Option (Link × Link) → WorldState → WorldState
-with_link None w = w
-with_link (Some p) w = after_keep_link (after_links w (p.0 ∷ [])) 0 p.1
-
--- the world after it gave this under this name and was handed it back
-abbrev pub KeepsAll : Gave → List ℕ → WorldState → WorldState → Type 0
-KeepsAll Nothing name old new = LogRefused old new name
-KeepsAll (A_log log kept link) name old new = new ≡ after_keep_log (with_link link (after_log old name log)) name kept
-
--- an empty log that got its header
-abbrev pub headed : Log → Log
-headed log = record log { bytes = append_known log.bytes header; held = log.held + 8 }
-
--- what stands where a link was asked for on a log with its header
-abbrev pub AtLink : Outcome → Option (Link × Link) → Log → Log → ℕ → ℕ → Type 0
-AtLink outcome.Served (Some p) log kept faults0 faults1 = Whole p.0 p.1 log kept None
-AtLink (outcome.Refused code) (Some p) log kept faults0 faults1 = Whole p.0 p.1 log kept (Some code)
-AtLink outcome.ReadFault (Some p) log kept faults0 faults1 = Stopped fault.Read p.0 p.1 log kept
-AtLink outcome.WriteFault (Some p) log kept faults0 faults1 = Stopped fault.Write p.0 p.1 log kept
-AtLink outcome.LogFault (Some p) log kept faults0 faults1 = Stopped fault.Log p.0 p.1 log kept
-AtLink outcome.NoMemory (Some p) log kept faults0 faults1 = Stopped fault.NoMemory p.0 p.1 log kept
-AtLink outcome.CannotOpen None log kept faults0 faults1 = Rose faults0 faults1 × (contents_of kept ≡ contents_of log)
-AtLink outcome.NoMemory None log kept faults0 faults1 = contents_of kept ≡ contents_of log
-AtLink other link log kept faults0 faults1 = ⊥
-
--- what stands at an outcome
-abbrev pub Ends : Outcome → Gave → ℕ → ℕ → Type 0
-Ends outcome.CannotOpen Nothing faults0 faults1 = Rose faults0 faults1
-Ends outcome.NoMemory Nothing faults0 faults1 = Unit {0}
-Ends outcome.BadLog (A_log log kept None) faults0 faults1 = (log.held ≢ 0) × (contents_of kept ≡ contents_of log)
-Ends outcome.LogFault (A_log log kept None) faults0 faults1 = Rose log.faults kept.faults × HeadedInPart log.held (contents_of log) (contents_of kept)
-Ends other (A_log log kept link) faults0 faults1 = (log.held ≡ 0) × AtLink other link (headed log) kept faults0 faults1
-Ends other Nothing faults0 faults1 = ⊥
-
--- a run of `pipe` over a log of this name
-pub record Ran (old new : WorldState) (faults0 faults1 : ℕ) (name : List ℕ) (outcome : Outcome) : Type 0 where
-  pub gave : Gave
-  pub keeps : KeepsAll gave name old new
-  pub ends : Ends outcome gave faults0 faults1
-
--- the outcome of a run over a link
-abbrev pub outcome_of : Result (Option ℕ) Fault → Outcome
-outcome_of (Ok None) = outcome.Served
-outcome_of (Ok (Some code)) = outcome.Refused code
-outcome_of (Err fault.Read) = outcome.ReadFault
-outcome_of (Err fault.Write) = outcome.WriteFault
-outcome_of (Err fault.Log) = outcome.LogFault
-outcome_of (Err fault.NoMemory) = outcome.NoMemory
 
 -- the log of this name that the world gave, and as what it keeps it
 pub record LogOf (old new : WorldState) (name : List ℕ) : Type 0 where
@@ -81,11 +28,31 @@ pub record LinkOf (old new : WorldState) : Type 0 where
   pub gave : new.given_links ≡ old.given_links ++ link ∷ []
   pub keeps : new.kept_link 0 ≡ Some kept
 
+-- no link was taken, no log was given
 abbrev pub NoLink : WorldState → WorldState → Type 0
 NoLink old new = new.given_links ≡ old.given_links
 
 abbrev pub NoLog : WorldState → WorldState → Type 0
 NoLog old new = new.given_logs ≡ old.given_logs
+
+-- an empty log that got its header
+abbrev pub headed : Log → Log
+headed log = record log { bytes = append_known log.bytes header; held = log.held + 8 }
+
+-- what the world gave in a run, and as what it keeps it: nothing, a log, or a log and a link
+pub data Gave : Type 0 where
+  Nothing : Gave
+  A_log : (log kept : Log) (link : Option (Link × Link)) → Gave
+
+-- the world after it gave this link, where there is one, and was handed it back
+abbrev pub with_link : Option (Link × Link) → WorldState → WorldState
+with_link None w = w
+with_link (Some p) w = after_keep_link (after_links w (p.0 ∷ [])) 0 p.1
+
+-- the world after it gave this under this name and was handed it back
+abbrev pub KeepsAll : Gave → List ℕ → WorldState → WorldState → Type 0
+KeepsAll Nothing name old new = LogRefused old new name
+KeepsAll (A_log log kept link) name old new = new ≡ after_keep_log (with_link link (after_log old name log)) name kept
 
 -- nothing but the last warning is not as in this state
 abbrev pub SameButWarned : WorldState → WorldState → Type 0
@@ -95,57 +62,41 @@ SameButWarned mid new = new ≡ record mid { warned = new.warned }
 abbrev pub Keeps : WorldState → WorldState → List ℕ → Type 0
 Keeps old new name = (gave : Gave) × ((mid : WorldState) × KeepsAll gave name old mid × SameButWarned mid new)
 
--- no link was taken, and of logs none, or an empty one that has its header
-abbrev pub BeforeLink : WorldState → WorldState → List ℕ → Type 0
-BeforeLink old new name = NoLink old new × (NoLog old new ⊎ ((d : LogOf old new name) × (d.log.held ≡ 0) × (contents_of d.kept ≡ contents_of (headed d.log))))
+-- the last warning is the text of the status, and the status is one of the nine
+abbrev pub Warned : ℕ → WorldState → WorldState → Type 0
+Warned status old new = (o : Outcome) × (status ≡ status_of o) × (new.warned ≡ (reported o old).warned)
 
--- the world failed to give the log, or the link
-abbrev pub CannotOpen : WorldState → WorldState → List ℕ → ℕ → ℕ → Type 0
-CannotOpen old new name faults0 faults1 = Rose faults0 faults1 × BeforeLink old new name
-
--- the log held bytes already, and is as it was; no link was taken
-abbrev pub BadLog : WorldState → WorldState → List ℕ → Type 0
-BadLog old new name = NoLink old new × ((d : LogOf old new name) × (d.log.held ≢ 0) × (contents_of d.kept ≡ contents_of d.log))
-
--- a log was given only if it was empty
-abbrev pub EmptyLog : WorldState → WorldState → List ℕ → Type 0
-EmptyLog old new name = NoLog old new ⊎ ((d : LogOf old new name) × (d.log.held ≡ 0))
-
-abbrev pub LogFaulted : WorldState → WorldState → List ℕ → Type 0
-LogFaulted old new name = (d : LogOf old new name) × Rose d.log.faults d.kept.faults
-
-abbrev pub ReadFaulted : WorldState → WorldState → Type 0
-ReadFaulted old new = (l : LinkOf old new) × Rose l.link.read_faults l.kept.read_faults
-
-abbrev pub WriteFaulted : WorldState → WorldState → Type 0
-WriteFaulted old new = (l : LinkOf old new) × Rose l.link.write_faults l.kept.write_faults
-
+-- 0 and 6. The outcome at an end of the input, by the code of a refused frame
 abbrev pub outcome_at_end : Option ℕ → Outcome
 outcome_at_end None = outcome.Served
 outcome_at_end (Some code) = outcome.Refused code
 
--- the input was read to an end, all is answered and logged; the status and the warning are those of this end
-pub record WholeRun (old new : WorldState) (name : List ℕ) (status : ℕ) : Type 0 where
+-- The input was read to an end, all is answered and logged; the status and the warning are those of this end
+pub record FinishedRun (old new : WorldState) (name : List ℕ) (status : ℕ) : Type 0 where
   pub of_log : LogOf old new name
   pub of_link : LinkOf old new
   pub code : Option ℕ
   pub empty : of_log.log.held ≡ 0
-  pub whole : Whole of_link.link of_link.kept (headed of_log.log) of_log.kept code
+  pub whole : Finished of_link.link of_link.kept (headed of_log.log) of_log.kept code
   pub status_is : status ≡ status_of (outcome_at_end code)
   pub warned_is : new.warned ≡ (reported (outcome_at_end code) old).warned
 
+-- 2 to 5. The status of a fault
 abbrev pub status_of_fault : Fault → ℕ
 status_of_fault fault.Read = 2
 status_of_fault fault.Write = 3
 status_of_fault fault.Log = 4
 status_of_fault fault.NoMemory = 5
 
--- it stopped before a link was taken
-abbrev pub Unlinked : Fault → WorldState → WorldState → List ℕ → Type 0
-Unlinked fault.Read old new name = ⊥
-Unlinked fault.Write old new name = ⊥
-Unlinked fault.Log old new name = NoLink old new × ((d : LogOf old new name) × HeadedInPart d.log.held (contents_of d.log) (contents_of d.kept))
-Unlinked fault.NoMemory old new name = BeforeLink old new name
+-- the count of faults of what failed rose: of the link's source, of its sink, of the log
+abbrev pub ReadFaulted : WorldState → WorldState → Type 0
+ReadFaulted old new = (l : LinkOf old new) × Rose l.link.read_faults l.kept.read_faults
+
+abbrev pub WriteFaulted : WorldState → WorldState → Type 0
+WriteFaulted old new = (l : LinkOf old new) × Rose l.link.write_faults l.kept.write_faults
+
+abbrev pub LogFaulted : WorldState → WorldState → List ℕ → Type 0
+LogFaulted old new name = (d : LogOf old new name) × Rose d.log.faults d.kept.faults
 
 -- it stopped on the link
 pub record StoppedRun (fault : Fault) (old new : WorldState) (name : List ℕ) : Type 0 where
@@ -165,6 +116,25 @@ pub record FrontRun (old new : WorldState) : Type 0 where
   pub says : Says of_link.link of_link.kept said
   pub front : said_to (asked taken ended) ≡ said ++ more
 
--- the last warning is the text of the status, and the status is one of the nine
-abbrev pub Warned : ℕ → WorldState → WorldState → Type 0
-Warned status old new = (o : Outcome) × (status ≡ status_of o) × (new.warned ≡ (reported o old).warned)
+-- no link was taken, and of logs none, or an empty one that has its header
+abbrev pub BeforeLink : WorldState → WorldState → List ℕ → Type 0
+BeforeLink old new name = NoLink old new × (NoLog old new ⊎ ((d : LogOf old new name) × (d.log.held ≡ 0) × (contents_of d.kept ≡ contents_of (headed d.log))))
+
+-- it stopped before a link was taken
+abbrev pub Unlinked : Fault → WorldState → WorldState → List ℕ → Type 0
+Unlinked fault.Read old new name = ⊥
+Unlinked fault.Write old new name = ⊥
+Unlinked fault.Log old new name = NoLink old new × ((d : LogOf old new name) × HeadedInPart d.log.held (contents_of d.log) (contents_of d.kept))
+Unlinked fault.NoMemory old new name = BeforeLink old new name
+
+-- whatever the status but 4 and 7: a log was given only if it was empty
+abbrev pub EmptyLog : WorldState → WorldState → List ℕ → Type 0
+EmptyLog old new name = NoLog old new ⊎ ((d : LogOf old new name) × (d.log.held ≡ 0))
+
+-- 7. The log held bytes already, and is as it was; no link was taken
+abbrev pub BadLog : WorldState → WorldState → List ℕ → Type 0
+BadLog old new name = NoLink old new × ((d : LogOf old new name) × (d.log.held ≢ 0) × (contents_of d.kept ≡ contents_of d.log))
+
+-- 8. The world failed to give the log, or the link
+abbrev pub CannotOpen : WorldState → WorldState → List ℕ → ℕ → ℕ → Type 0
+CannotOpen old new name faults0 faults1 = Rose faults0 faults1 × BeforeLink old new name

@@ -56,14 +56,14 @@ Logs log kept text = contents_of kept ≡ grown (contents_of log) text
 abbrev pub AtEnd : Link → Type 0
 AtEnd kept = IfSome kept.left (λ left. left ≡ [])
 
-abbrev pub code_of : Ending → Option ℕ
-code_of (Refused code) = Some code
-code_of other = None
+abbrev pub refused_code : Ending → Option ℕ
+refused_code (Refused code) = Some code
+refused_code other = None
 
 -- The input was read to its end frame, to its refused frame or to its end; the link was told exactly what the
 -- one-thread store says to all that it asked, and the log has grown by exactly the entries of the records that this
 -- adds. The code is that of a refused frame.
-pub record Whole (link kept : Link) (log kept_log : Log) (code : Option ℕ) : Type 0 where
+pub record Finished (link kept : Link) (log kept_log : Log) (code : Option ℕ) : Type 0 where
   pub taken : List ℕ
   -- whether the input ended, which it does only where nothing is left
   pub ended : Bool
@@ -73,7 +73,7 @@ pub record Whole (link kept : Link) (log kept_log : Log) (code : Option ℕ) : T
   pub at_end : IsTrue ended → AtEnd kept
   pub parses : Parses requests how ended taken
   pub closed : how ≢ Open
-  pub code_is : code ≡ code_of how
+  pub code_is : code ≡ refused_code how
   pub says : Says link kept (said_to (asked taken ended))
   pub logs : Logs log kept_log (logged_for (asked taken ended))
 

@@ -1,4 +1,5 @@
 ghost use Rattle.std.specs.Prelude.{◌≡◌, ◌≤◌, length};
+ghost use Rattle.demi_core.specs.World.{SameSources};
 ghost use Rattle.demi_cli.specs.Outcome.{status_of, text_of, reported, digit};
 
 use crate::outcome::Outcome;
@@ -57,6 +58,7 @@ fn text(outcome: Outcome) -> &'static str
 pub fn report<W: World>(world: &mut W, outcome: Outcome) -> u8
     ensures status { result ≡ status_of outcome }
     ensures warned { W.state world.new ≡ reported outcome (W.state world.old) }
+    ensures kept_sources { SameSources (W.kept_source world.old) (W.kept_source world.new) }
     ensures faults { W.faults world.new ≡ W.faults world.old }
     ensures print_faults { W.print_faults world.new ≡ W.print_faults world.old }
 {

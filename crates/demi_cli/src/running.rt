@@ -4,7 +4,8 @@ ghost use Rattle.demi_core.specs.World.{Link, Log, WorldState, after_links, afte
 ghost use Rattle.demi_cli.specs.Outcome.{is_pipe, log_name, reported, status_of};
 ghost use Rattle.demi_cli.specs.declared.serving.Fault.{Fault};
 ghost use Rattle.demi_cli.specs.Reading.{ReadsOnlyWhatIsDue};
-ghost use Rattle.demi_cli.specs.Run.{AtLink, with_link, Ran, outcome_of, Keeps, CannotOpen, BadLog, EmptyLog, LogFaulted, ReadFaulted, WriteFaulted, WholeRun, NoLink, Unlinked, StoppedRun, FrontRun, status_of_fault, Warned};
+ghost use Rattle.demi_cli.specs.Ended.{AtLink, Ran, outcome_of};
+ghost use Rattle.demi_cli.specs.Run.{with_link, Keeps, CannotOpen, BadLog, EmptyLog, LogFaulted, ReadFaulted, WriteFaulted, FinishedRun, NoLink, Unlinked, StoppedRun, FrontRun, status_of_fault, Warned};
 
 use crate::outcome::Outcome;
 use crate::reporting::report;
@@ -26,6 +27,7 @@ fn first_link<W: World>(alloc: Global, world: &mut W) -> Result<(W::In, W::Out),
       written = W.Out.written p.1;
       write_faults = W.Out.faults p.1;
     }) ∷ [])) }
+    ensures next_source { IfOk result (λ p. W.next_source world.old 0 p.0) }
     ensures same { OnErr result (W.state world.new ≡ W.state world.old) }
     ensures later { W.faults world.old ≤ W.faults world.new }
     ensures failed { IsErrOf result Halt.Failed → Rose (W.faults world.old) (W.faults world.new) }
@@ -61,7 +63,7 @@ fn over_link<W: World>(alloc: Global, store: &mut PlainStore<W::Log>, world: &mu
         (record { held = W.Log.held store.old.disk; bytes = W.Log.bytes store.old.disk; faults = W.Log.faults store.old.disk })
         (record { held = W.Log.held store.new.disk; bytes = W.Log.bytes store.new.disk; faults = W.Log.faults store.new.disk })
         (W.faults world.old) (W.faults world.new) }
-    ensures reads { ReadsOnlyWhatIsDue W.In.reads W.In.taken W.In.left W.In.faults (W.state world.old) (W.state world.new) }
+    ensures reads { ReadsOnlyWhatIsDue W.In.reads W.In.taken W.In.left W.In.faults (W.next_source world.old) (W.kept_source world.new) (W.state world.old) (W.state world.new) }
     ensures later { W.Log.faults store.old.disk ≤ W.Log.faults store.new.disk }
     ensures faults { W.faults world.old ≤ W.faults world.new }
     ensures print_faults { W.print_faults world.new ≡ W.print_faults world.old }
@@ -83,7 +85,7 @@ fn over_link<W: World>(alloc: Global, store: &mut PlainStore<W::Log>, world: &mu
 // Runs `pipe` over a log.
 fn pipe<W: World>(alloc: Global, name: &str, world: &mut W) -> Outcome
     ensures ran { Ran (W.state world.old) (W.state world.new) (W.faults world.old) (W.faults world.new) name.now result }
-    ensures reads { ReadsOnlyWhatIsDue W.In.reads W.In.taken W.In.left W.In.faults (W.state world.old) (W.state world.new) }
+    ensures reads { ReadsOnlyWhatIsDue W.In.reads W.In.taken W.In.left W.In.faults (W.next_source world.old) (W.kept_source world.new) (W.state world.old) (W.state world.new) }
     ensures print_faults { W.print_faults world.new ≡ W.print_faults world.old }
 {
     let log = match world.log(alloc, name) {
@@ -152,12 +154,12 @@ pub fn run<W: World>(alloc: Global, words: &Vec<String>, world: &mut W) -> u8
     ensures log_fault { result ≡ 4 → LogFaulted (W.state world.old) (W.state world.new) (log_name (map string_bytes words.now.items)) }
     ensures read_fault { result ≡ 2 → ReadFaulted (W.state world.old) (W.state world.new) }
     ensures write_fault { result ≡ 3 → WriteFaulted (W.state world.old) (W.state world.new) }
-    ensures whole { (result ≡ 0) ⊎ (result ≡ 6) → WholeRun (W.state world.old) (W.state world.new) (log_name (map string_bytes words.now.items)) result }
+    ensures whole { (result ≡ 0) ⊎ (result ≡ 6) → FinishedRun (W.state world.old) (W.state world.new) (log_name (map string_bytes words.now.items)) result }
     ensures stopped { (fault : Fault) → result ≡ status_of_fault fault
         → Unlinked fault (W.state world.old) (W.state world.new) (log_name (map string_bytes words.now.items))
         ⊎ StoppedRun fault (W.state world.old) (W.state world.new) (log_name (map string_bytes words.now.items)) }
     ensures front { (fault : Fault) → result ≡ status_of_fault fault → NoLink (W.state world.old) (W.state world.new) ⊎ FrontRun (W.state world.old) (W.state world.new) }
-    ensures reads { ReadsOnlyWhatIsDue W.In.reads W.In.taken W.In.left W.In.faults (W.state world.old) (W.state world.new) }
+    ensures reads { ReadsOnlyWhatIsDue W.In.reads W.In.taken W.In.left W.In.faults (W.next_source world.old) (W.kept_source world.new) (W.state world.old) (W.state world.new) }
     ensures said { (W.state world.new).said ≡ (W.state world.old).said }
     ensures print_faults { W.print_faults world.new ≡ W.print_faults world.old }
     ensures warned { Warned result (W.state world.old) (W.state world.new) }

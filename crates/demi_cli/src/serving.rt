@@ -1,7 +1,7 @@
 // The run over one link.
 ghost use Rattle.std.specs.Prelude.{◌≡◌, ◌≤◌, ◌<◌, [], None, true, length, IfOk, IfErr};
 ghost use Rattle.demi_cli.specs.Reading.{OnlyDueReads};
-ghost use Rattle.demi_cli.specs.Serving.{Whole, Stopped};
+ghost use Rattle.demi_cli.specs.Serving.{Finished, Stopped};
 
 use crate::answering::{answer_get, answer_put, bye, refuse};
 use demi_core::{Disk, Sink, Source};
@@ -34,7 +34,7 @@ pub fn serve<I: Source, O: Sink, D: Disk>(
     requires small { length room.old ≤ 4096 }
     requires fresh { decoder.old ≡ record { rest = []; last = None; stop = None; hungry = true } }
     requires empty { store.old.records ≡ [] }
-    ensures whole { IfOk result (λ code. Whole
+    ensures whole { IfOk result (λ code. Finished
         (record { taken = I.taken source.old; left = I.left source.old; read_faults = I.faults source.old; written = O.written sink.old; write_faults = O.faults sink.old })
         (record { taken = I.taken source.new; left = I.left source.new; read_faults = I.faults source.new; written = O.written sink.new; write_faults = O.faults sink.new })
         (record { held = D.held store.old.disk; bytes = D.bytes store.old.disk; faults = D.faults store.old.disk })

@@ -55,6 +55,11 @@ impl World for RealWorld {
 
     ghost state = { λ w. state_after w.past.calls };
 
+    // Of its sources it tells nothing but what their links tell.
+    ghost next_source = { λ w number source. Unit {0} };
+
+    ghost kept_source = { λ w number source. Unit {0} };
+
     /// One link on standard input and output. Connections are not offered yet: they give `Failed`.
     fn links(
         &mut self,

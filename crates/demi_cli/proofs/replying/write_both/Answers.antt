@@ -1,5 +1,5 @@
-use Rattle.std.proofs.Common.{◌≡◌, ◌≤◌, ◌<◌, ◌++◌, ◌+◌, ◌-◌, ap, sym, ◌∙◌, take, drop, length, arith, ℕ, List, length-drop, length-append}
-use Rattle.std.proofs.lemmas.List.{take_rest, length-take, drop-append-le}
+use Rattle.std.proofs.Common.{◌≤◌, length, arith, ℕ, List, length-drop}
+use Rattle.std.proofs.lemmas.List.{take_rest, length-take}
 use Rattle.std.proofs.lemmas.Result.{on_ok_weaker, on_err_weaker}
 use Rattle.demi_cli.proofs.Writes.{more_of_both, rest_of_both, front_of_both}
 use Rattle.demi_cli.proofs.replying.write_both.Goals as goal
