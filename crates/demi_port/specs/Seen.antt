@@ -128,7 +128,7 @@ Saw v w k n = (t : ℕ) × (q : ℕ) × (v.clock ≤ t) × (get_elem? w.looks q 
 
 -- why the pass did not get the token i: it was not free, was worn, or had another word than the pass had just found
 abbrev pub Missed : {D T B : Type 0} → PassValue D T B → PassValue D T B → ℕ → Type 0
-Missed v w i = (n : ℕ) × Saw v w (i + 3) n × (((n % 8 ≢ 0) ⊎ (1099511627776 ≤ n / 8)) ⊎ ((m : ℕ) × Saw v w (i + 3) m × (m ≢ n)))
+Missed v w i = (n : ℕ) × Saw v w (i + 3) n × (((n % 8 ≢ 0) ⊎ (last_round ≤ n / 8)) ⊎ ((m : ℕ) × Saw v w (i + 3) m × (m ≢ n)))
 
 -- a pass that has done nothing
 abbrev pub IsNewPass : {D T B : Type 0} → PortId B → ℕ → PassValue D T B → Type 0

@@ -3,7 +3,7 @@ ghost use Rattle.std.specs.Prelude.{◌≡◌, ℕ, ◌<◌, ◌≤◌, length};
 ghost use mathlib.Core.Option.{some};
 ghost use lib.ListN.{get_elem?};
 ghost use Rattle.demi_port_core.specs.History.{AnyOf, Each, ground_of, of_pass, times, total};
-ghost use Rattle.demi_port_core.specs.Entries.{IsRedeemed};
+ghost use Rattle.demi_port_core.specs.Entries.{IsFetched, IsRedeemed};
 ghost use Rattle.demi_port_core.specs.Trails.{Behind};
 ghost use Rattle.demi_port.specs.Seen.{known_at, known_by, says};
 
@@ -56,6 +56,7 @@ impl<L: Law> Drop for PortEnd<L> {
 impl<L: Law> Port<L> {
     /// All passes come back, and as many operations were redeemed as submitted.
     /// The end has the one history: the entries with a pass's number are that pass's operations at their places, and there are no others. What each pass was handed begins it.
+    /// Each place was fetched, once and with its own token, so the last ground, which the device has heard, is all that the history says.
     pub fn close(self, seat: DeviceSeat<L>, passes: Vec<PortPass<L>>) -> PortEnd<L>
         requires port { (seat.port ≡ self) × Each (λ p. p.port ≡ self) passes.items }
         requires all { (n : ℕ) → n < seat.passes → AnyOf (λ p. p.number ≡ n) passes.items }
@@ -66,6 +67,7 @@ impl<L: Law> Port<L> {
         ensures redeemed { Each (λ p. Each (IsRedeemed result.history) p.redeemed) passes.items }
         ensures once { (t : ℕ) → total (λ p. times t p.redeemed) passes.items ≤ 1 }
         ensures trail { result.trail ≡ seat.trail }
+        ensures fetched { Each (IsFetched result.history) seat.fetched }
         ensures counted { length seat.fetched ≡ length result.history }
         ensures grounded { ground_of seat.fetched ≡ says result.history }
         ensures heard { result.heard ≡ says result.history }

@@ -1,4 +1,7 @@
 //! The two tables of a port, and the seats of a pass or of the device on both.
+//!
+//! Word 0 of the token table is the ticket, word 1 has the doorbell bits, word 2 the waker bits, and word `i + 3` is that
+//! of the token `i`, whose slot is `i`. The record table has one word, which is always 0, and no slots.
 ghost use Rattle.std.specs.Prelude.{◌≡◌, ◌+◌, ◌≤◌};
 ghost use Rattle.atomic_table.specs.Seated.{table_id_coded};
 ghost use Rattle.std.specs.Coded.{Coded-set};
