@@ -8,7 +8,7 @@ ghost use Rattle.demi_memq.specs.Serving.{IsReady, IsServed};
 
 use crate::emptying::{close_all, release_all, release_op, stop_all};
 use crate::heard::{History, Outcomes};
-use crate::queues::{Queues, take_first};
+use crate::queues::{MOST_ITEMS, MOST_QUEUES, Queues, take_first};
 use crate::{MemLaw, MemOp, MemOut};
 use demi_device::Done;
 use demi_port_core::Place;
@@ -26,7 +26,7 @@ impl<'h> Queues<'h> {
         requires calm { self.old.stop ≡ None }
         ensures { IsServed history.now.value outcomes.now.value queue 0 self.old self.new done.old done.new }
     {
-        if self.made < 256 {
+        if self.made < MOST_QUEUES {
             let q = self.made;
             self.made += 1;
             done.add(place, MemOut::Opened(q));
@@ -56,7 +56,7 @@ impl<'h> Queues<'h> {
         } else if let Some(first) = take_first(&mut self.pending, q) {
             done.add(Place(first), MemOut::Item(sga));
             return done.add(place, MemOut::Pushed);
-        } else if self.waiting.len() < 1024 {
+        } else if self.waiting.len() < MOST_ITEMS {
             self.waiting.push_back_reserved((q, sga));
             return done.add(place, MemOut::Pushed);
         } else {
