@@ -3,9 +3,13 @@ ghost use Rattle.std.specs.Prelude.{◌≡◌, ℕ, ◌+◌, ◌*◌, ◌<◌, �
 ghost use Rattle.std.specs.Thread.{IsSync};
 ghost use Rattle.demi_port_core.specs.History.{Each};
 ghost use Rattle.demi_port_core.specs.Twice.{IsTwice};
+ghost use Rattle.demi_port.specs.Seen.{IsNewSeat, NewFrom};
 ghost use Rattle.demi_bench.specs.Asking.{AllHaveAsked, HasAsked, IsEven};
+ghost use Rattle.demi_bench.specs.Serving.{IsDone};
 
+use crate::doubler;
 use crate::doubler::{Doubler, TOKENS};
+use demi_device::Device;
 use demi_port::{DeviceSeat, Port, PortPass, Redeem};
 use demi_port_core::{Doubles, Token};
 use std::alloc::Global;
@@ -107,15 +111,14 @@ fn run_both<R: Threads + Wait + Sync>(
     rt: &R,
     port: &Port<Doubles>,
     operations: u32,
-    seat: &mut DeviceSeat<Doubles>,
+    device: &mut Device<Doubler>,
     passes: &mut [PortPass<Doubles>],
 ) -> u64
-    requires port { (seat.old.port ≡ port.now) × (port.now.tokens.slots ≡ TOKENS) }
+    requires port { device.old.seat.port ≡ port.now }
     requires passes { Each (IsEven port.now) passes.old × (length passes.old ≤ 64) }
-    requires new { (seat.old.fetched ≡ []) × (seat.old.finished ≡ []) }
     ensures even { Each (IsEven port.now) passes.new }
     ensures asked { AllHaveAsked operations passes.old passes.new }
-    ensures seat { (seat.new.port ≡ seat.old.port) × (seat.new.passes ≡ seat.old.passes) }
+    ensures device { IsDone device.old device.new }
 {
     let all = operations as u64 * passes.len() as u64;
     let right = AtomicU64::new(0);
@@ -124,12 +127,20 @@ fn run_both<R: Threads + Wait + Sync>(
         requires { IsSync R.row × Each (IsEven port.now) passes.now }
         ensures { Each (IsEven port.entry.now) passes.exit.now × AllHaveAsked operations passes.entry.now passes.exit.now }
     { call_all(rt, port, operations, counted, passes) };
-    let mut device = ||
-        requires { (seat.now.port ≡ port.now) × (port.now.tokens.slots ≡ TOKENS) × (seat.now.fetched ≡ []) × (seat.now.finished ≡ []) }
-        ensures { (seat.exit.now.port ≡ seat.entry.now.port) × (seat.exit.now.passes ≡ seat.entry.now.passes) }
-    { Doubler::run(rt, port, seat, all) };
-    join_mut(rt, &mut callers, &mut device);
+    let mut serves = ||
+        requires { device.now.seat.port ≡ port.now }
+        ensures { IsDone device.entry.now device.exit.now }
+    { doubler::run(rt, port, device, all) };
+    join_mut(rt, &mut callers, &mut serves);
     right.load(Ordering::SeqCst)
+}
+
+// Closes a port of which nothing was asked.
+fn close_unused(port: Port<Doubles>, seat: DeviceSeat<Doubles>, passes: Vec<PortPass<Doubles>>)
+    requires seat { IsNewSeat port (length passes.items) seat }
+    requires passes { NewFrom port 0 passes.items }
+{
+    let _ended = port.close(seat, passes);
 }
 
 /// How many outcomes were right, and how long it took. `None` is want of memory.
@@ -143,11 +154,18 @@ pub fn run<R: Threads + Clock + Wait + Sync>(
     requires { (1 ≤ callers) × (callers * IN_FLIGHT ≤ TOKENS) }
 {
     let started = Instant::now(rt)?;
-    let Ok((port, mut passes, mut seat)) = Port::<Doubles>::make::<Brand>(alloc, TOKENS, callers)
-    else {
+    let Ok((port, mut passes, seat)) = Port::<Doubles>::make::<Brand>(alloc, TOKENS, callers) else {
         return Ok(None);
     };
-    let right = run_both(rt, &port, operations, &mut seat, &mut passes);
+    let mut device = match Device::make(alloc, Doubler::new(), seat, TOKENS) {
+        Ok(device) => device,
+        Err((_engine, seat)) => {
+            close_unused(port, seat, passes);
+            return Ok(None);
+        }
+    };
+    let right = run_both(rt, &port, operations, &mut device, &mut passes);
+    let (_engine, seat) = device.parts();
     let _ended = port.close(seat, passes);
     Ok(Some((right, started.elapsed(rt)?)))
 }

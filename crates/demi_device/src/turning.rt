@@ -24,8 +24,8 @@ impl<E: Engine> Device<E> {
         self.inbox.take_in(port)
     }
 
-    // How many operations were fetched and not served.
-    fn waiting(&self) -> u32
+    /// How many operations were fetched and not served: after a turn, those that wait for one of a lower place.
+    pub fn waiting(&self) -> u32
         ensures { length (E.served self.now.engine) + result ≡ length self.now.seat.fetched }
     {
         self.inbox.waiting()

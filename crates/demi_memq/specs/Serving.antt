@@ -1,10 +1,11 @@
 -- What the rooms of memory queues keep, and what they add.
-use Rattle.std.specs.Prelude.{◌≡◌, ◌≢◌, ℕ, ◌+◌, List, [], ◌∷◌, ◌++◌, Some, slice_get, option_map}
+use Rattle.std.specs.Prelude.{◌≡◌, ◌≢◌, ℕ, ◌+◌, ◌<◌, List, [], ◌∷◌, ◌++◌, Some, length, slice_get, option_map}
 use Rattle.demi_heap.specs.Seen.{HeapId, HalfValue, PassValue}
 use Rattle.demi_port_core.specs.History.{Each}
+use Rattle.demi_device.specs.Serving.{DoneValue}
 use Rattle.demi_sga.specs.Arrays.{AreOf}
 use Rattle.demi_memq.specs.Said.{IsFrom, array_said, out_said}
-use Rattle.demi_memq.specs.Segments.{given}
+use Rattle.demi_memq.specs.Segments.{given, held}
 use Rattle.demi_memq.specs.Counting.{beside, result_at}
 use Rattle.demi_memq.specs.declared.op.MemOp.{MemOp}
 use Rattle.demi_memq.specs.declared.out.MemOut.{MemOut}
@@ -52,3 +53,22 @@ OwesAll h op n o = (q : ℕ) → Owes h op q n o
 -- the pops of other queues are the same
 abbrev pub SameOthers : ℕ → List (ℕ × ℕ) → List (ℕ × ℕ) → Type 0
 SameOthers q n n' = (j : ℕ) → q ≢ j → beside j n' ≡ beside j n
+
+-- an operation can be served at the place: the rooms are as the history and the outcomes have it, it is the next, and there is room
+-- for outcomes, of which none was added yet
+pub record IsReady (h : List MemOp) (f : List (ℕ × MemOut)) (s : Queues) (place : ℕ) (d : DoneValue MemOut) : Type 0 where
+  pub kept : IsKept h f s
+  pub sound : IsSound s
+  pub next : place ≡ length h
+  pub empty : d.added ≡ []
+  pub holds : length h < length f + d.room
+
+-- The operation was served: the rooms are as the history with it has it, the outcomes that were added come rightly and their arrays
+-- are of the heap, and each of the segments that came with it waits, was given, or ended.
+pub record IsServed (h : List MemOp) (f : List (ℕ × MemOut)) (op : MemOp) (came : ℕ) (s s' : Queues) (d d' : DoneValue MemOut) : Type 0 where
+  pub served : Serves h f op s' d'.added
+  pub sound : IsSound s'
+  pub given : GivenOf s'.pass.heap d'.added
+  pub numbers : Accounts s.pass (held s.waiting.items) s'.pass (held s'.waiting.items) d'.added came
+  pub room : s'.room ≡ s.room
+  pub done : d'.room ≡ d.room

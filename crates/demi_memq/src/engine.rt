@@ -4,7 +4,7 @@ ghost use Rattle.demi_device.specs.Serving.{HasStop};
 ghost use Rattle.demi_memq.specs.Said.{is_stop};
 
 use crate::heard::{History, Outcomes, finished, heard, no_history, no_outcomes};
-use crate::queues::Queues;
+use crate::queues::{MOST_ITEMS, MOST_QUEUES, Queues};
 use crate::{MemLaw, MemOp};
 use demi_core::NoMemory;
 use demi_device::{Done, Engine};
@@ -47,10 +47,10 @@ impl<'h> MemEngine<'h> {
         ensures made { IfOk result (λ e. e ≡ record { pass = pass; room = c; served = []; finished = []; waits = [] }) }
         ensures back { IfErr result (λ p. p ≡ pass) }
     {
-        let Ok(shut) = Vec::from_elem(alloc, false, 256) else {
+        let Ok(shut) = Vec::from_elem(alloc, false, MOST_QUEUES as usize) else {
             return Err(pass);
         };
-        let Ok(waiting) = VecDeque::with_capacity(alloc, 1024) else {
+        let Ok(waiting) = VecDeque::with_capacity(alloc, MOST_ITEMS) else {
             return Err(pass);
         };
         let Ok(pending) = VecDeque::with_capacity(alloc, c as usize) else {

@@ -9,6 +9,12 @@ use demi_port_core::Place;
 use demi_sga::DevSga;
 use std::collections::VecDeque;
 
+/// How many queues a port has at most.
+pub(crate) const MOST_QUEUES: u32 = 256;
+
+/// How many items wait at most, over all queues.
+pub(crate) const MOST_ITEMS: usize = 1024;
+
 /// Takes out the first that stands beside the queue.
 pub(crate) fn take_first<T>(room: &mut VecDeque<(u32, T)>, q: u32) -> Option<T>
     ensures none { IfNone result (beside q room.old.items ≡ []) }

@@ -1,14 +1,14 @@
 //! How memory queues serve an operation.
-ghost use Rattle.std.specs.Prelude.{◌≡◌, ◌+◌, ◌<◌, ◌++◌, [], ◌∷◌, length, None, Some};
+ghost use Rattle.std.specs.Prelude.{◌≡◌, ◌+◌, ◌<◌, length, None, Some};
 ghost use Rattle.demi_sga.specs.Arrays.{AreOf};
 ghost use Rattle.demi_memq.specs.declared.op.MemOp.TheVariants.{Queue as queue, Push as push, Pop as pop, Close as close, Stop as stop};
 ghost use Rattle.demi_memq.specs.Said.{IsProper, array_said, op_said};
-ghost use Rattle.demi_memq.specs.Segments.{held, op_segments};
-ghost use Rattle.demi_memq.specs.Serving.{Accounts, GivenOf, IsKept, IsSound, Serves};
+ghost use Rattle.demi_memq.specs.Segments.{op_segments};
+ghost use Rattle.demi_memq.specs.Serving.{IsReady, IsServed};
 
 use crate::emptying::{close_all, release_all, release_op, stop_all};
 use crate::heard::{History, Outcomes};
-use crate::queues::{Queues, take_first};
+use crate::queues::{MOST_ITEMS, MOST_QUEUES, Queues, take_first};
 use crate::{MemLaw, MemOp, MemOut};
 use demi_device::Done;
 use demi_port_core::Place;
@@ -22,20 +22,11 @@ impl<'h> Queues<'h> {
         outcomes: &Outcomes,
         done: &mut Done<MemLaw>,
     )
-        requires kept { IsKept history.now.value outcomes.now.value self.old }
-        requires sound { IsSound self.old }
-        requires next { place.0 ≡ length history.now.value }
-        requires empty { done.old.added ≡ [] }
-        requires holds { length history.now.value < length outcomes.now.value + done.old.room }
+        requires ready { IsReady history.now.value outcomes.now.value self.old place.0 done.old }
         requires calm { self.old.stop ≡ None }
-        ensures served { Serves history.now.value outcomes.now.value queue self.new done.new.added }
-        ensures sound { IsSound self.new }
-        ensures given { GivenOf self.new.pass.heap done.new.added }
-        ensures numbers { Accounts self.old.pass (held self.old.waiting.items) self.new.pass (held self.new.waiting.items) done.new.added 0 }
-        ensures room { self.new.room ≡ self.old.room }
-        ensures done { done.new.room ≡ done.old.room }
+        ensures { IsServed history.now.value outcomes.now.value queue 0 self.old self.new done.old done.new }
     {
-        if self.made < 256 {
+        if self.made < MOST_QUEUES {
             let q = self.made;
             self.made += 1;
             done.add(place, MemOut::Opened(q));
@@ -53,19 +44,10 @@ impl<'h> Queues<'h> {
         outcomes: &Outcomes,
         done: &mut Done<MemLaw>,
     )
-        requires kept { IsKept history.now.value outcomes.now.value self.old }
-        requires sound { IsSound self.old }
+        requires ready { IsReady history.now.value outcomes.now.value self.old place.0 done.old }
         requires proper { AreOf self.old.pass.heap sga }
-        requires next { place.0 ≡ length history.now.value }
-        requires empty { done.old.added ≡ [] }
-        requires holds { length history.now.value < length outcomes.now.value + done.old.room }
         requires calm { self.old.stop ≡ None }
-        ensures served { Serves history.now.value outcomes.now.value (push q (array_said sga)) self.new done.new.added }
-        ensures sound { IsSound self.new }
-        ensures given { GivenOf self.new.pass.heap done.new.added }
-        ensures numbers { Accounts self.old.pass (held self.old.waiting.items) self.new.pass (held self.new.waiting.items) done.new.added (length sga) }
-        ensures room { self.new.room ≡ self.old.room }
-        ensures done { done.new.room ≡ done.old.room }
+        ensures { IsServed history.now.value outcomes.now.value (push q (array_said sga)) (length sga) self.old self.new done.old done.new }
     {
         let refusal = if q >= self.made {
             MemOut::BadQueue
@@ -74,7 +56,7 @@ impl<'h> Queues<'h> {
         } else if let Some(first) = take_first(&mut self.pending, q) {
             done.add(Place(first), MemOut::Item(sga));
             return done.add(place, MemOut::Pushed);
-        } else if self.waiting.len() < 1024 {
+        } else if self.waiting.len() < MOST_ITEMS {
             self.waiting.push_back_reserved((q, sga));
             return done.add(place, MemOut::Pushed);
         } else {
@@ -92,19 +74,10 @@ impl<'h> Queues<'h> {
         outcomes: &Outcomes,
         done: &mut Done<MemLaw>,
     )
-        requires kept { IsKept history.now.value outcomes.now.value self.old }
-        requires sound { IsSound self.old }
-        requires next { place.0 ≡ length history.now.value }
+        requires ready { IsReady history.now.value outcomes.now.value self.old place.0 done.old }
         requires few { length history.now.value < length outcomes.now.value + self.old.room }
-        requires empty { done.old.added ≡ [] }
-        requires holds { length history.now.value < length outcomes.now.value + done.old.room }
         requires calm { self.old.stop ≡ None }
-        ensures served { Serves history.now.value outcomes.now.value (pop q) self.new done.new.added }
-        ensures sound { IsSound self.new }
-        ensures given { GivenOf self.new.pass.heap done.new.added }
-        ensures numbers { Accounts self.old.pass (held self.old.waiting.items) self.new.pass (held self.new.waiting.items) done.new.added 0 }
-        ensures room { self.new.room ≡ self.old.room }
-        ensures done { done.new.room ≡ done.old.room }
+        ensures { IsServed history.now.value outcomes.now.value (pop q) 0 self.old self.new done.old done.new }
     {
         if q >= self.made {
             done.add(place, MemOut::BadQueue);
@@ -125,18 +98,9 @@ impl<'h> Queues<'h> {
         outcomes: &Outcomes,
         done: &mut Done<MemLaw>,
     )
-        requires kept { IsKept history.now.value outcomes.now.value self.old }
-        requires sound { IsSound self.old }
-        requires next { place.0 ≡ length history.now.value }
-        requires empty { done.old.added ≡ [] }
-        requires holds { length history.now.value < length outcomes.now.value + done.old.room }
+        requires ready { IsReady history.now.value outcomes.now.value self.old place.0 done.old }
         requires calm { self.old.stop ≡ None }
-        ensures served { Serves history.now.value outcomes.now.value (close q) self.new done.new.added }
-        ensures sound { IsSound self.new }
-        ensures given { GivenOf self.new.pass.heap done.new.added }
-        ensures numbers { Accounts self.old.pass (held self.old.waiting.items) self.new.pass (held self.new.waiting.items) done.new.added 0 }
-        ensures room { self.new.room ≡ self.old.room }
-        ensures done { done.new.room ≡ done.old.room }
+        ensures { IsServed history.now.value outcomes.now.value (close q) 0 self.old self.new done.old done.new }
     {
         if q >= self.made {
             done.add(place, MemOut::BadQueue);
@@ -156,18 +120,9 @@ impl<'h> Queues<'h> {
         outcomes: &Outcomes,
         done: &mut Done<MemLaw>,
     )
-        requires kept { IsKept history.now.value outcomes.now.value self.old }
-        requires sound { IsSound self.old }
-        requires next { place.0 ≡ length history.now.value }
-        requires empty { done.old.added ≡ [] }
-        requires holds { length history.now.value < length outcomes.now.value + done.old.room }
+        requires ready { IsReady history.now.value outcomes.now.value self.old place.0 done.old }
         requires calm { self.old.stop ≡ None }
-        ensures served { Serves history.now.value outcomes.now.value stop self.new done.new.added }
-        ensures sound { IsSound self.new }
-        ensures given { GivenOf self.new.pass.heap done.new.added }
-        ensures numbers { Accounts self.old.pass (held self.old.waiting.items) self.new.pass (held self.new.waiting.items) done.new.added 0 }
-        ensures room { self.new.room ≡ self.old.room }
-        ensures done { done.new.room ≡ done.old.room }
+        ensures { IsServed history.now.value outcomes.now.value stop 0 self.old self.new done.old done.new }
     {
         self.stop = Some(place);
         stop_all(&mut self.pending, place, history, outcomes, done);
@@ -184,19 +139,10 @@ impl<'h> Queues<'h> {
         outcomes: &Outcomes,
         done: &mut Done<MemLaw>,
     )
-        requires kept { IsKept history.now.value outcomes.now.value self.old }
-        requires sound { IsSound self.old }
+        requires ready { IsReady history.now.value outcomes.now.value self.old place.0 done.old }
         requires proper { IsProper self.old.pass.heap op }
-        requires next { place.0 ≡ length history.now.value }
-        requires empty { done.old.added ≡ [] }
-        requires holds { length history.now.value < length outcomes.now.value + done.old.room }
         requires ended { self.old.stop ≡ Some at }
-        ensures served { Serves history.now.value outcomes.now.value (op_said op) self.new done.new.added }
-        ensures sound { IsSound self.new }
-        ensures given { GivenOf self.new.pass.heap done.new.added }
-        ensures numbers { Accounts self.old.pass (held self.old.waiting.items) self.new.pass (held self.new.waiting.items) done.new.added (op_segments op) }
-        ensures room { self.new.room ≡ self.old.room }
-        ensures done { done.new.room ≡ done.old.room }
+        ensures { IsServed history.now.value outcomes.now.value (op_said op) (op_segments op) self.old self.new done.old done.new }
     {
         release_op(self.heap, &mut self.pass, op);
         done.add(place, MemOut::Stopped(at));
@@ -211,19 +157,10 @@ impl<'h> Queues<'h> {
         outcomes: &Outcomes,
         done: &mut Done<MemLaw>,
     )
-        requires kept { IsKept history.now.value outcomes.now.value self.old }
-        requires sound { IsSound self.old }
+        requires ready { IsReady history.now.value outcomes.now.value self.old place.0 done.old }
         requires proper { IsProper self.old.pass.heap op }
-        requires next { place.0 ≡ length history.now.value }
         requires few { length history.now.value < length outcomes.now.value + self.old.room }
-        requires empty { done.old.added ≡ [] }
-        requires holds { length history.now.value < length outcomes.now.value + done.old.room }
-        ensures served { Serves history.now.value outcomes.now.value (op_said op) self.new done.new.added }
-        ensures sound { IsSound self.new }
-        ensures given { GivenOf self.new.pass.heap done.new.added }
-        ensures numbers { Accounts self.old.pass (held self.old.waiting.items) self.new.pass (held self.new.waiting.items) done.new.added (op_segments op) }
-        ensures room { self.new.room ≡ self.old.room }
-        ensures done { done.new.room ≡ done.old.room }
+        ensures { IsServed history.now.value outcomes.now.value (op_said op) (op_segments op) self.old self.new done.old done.new }
     {
         if let Some(at) = self.stop {
             return self.refuse(at, place, op, history, outcomes, done);

@@ -1,4 +1,4 @@
-use Rattle.std.proofs.Common.{arith, ap, length, true, false, ◌∙◌, ◌++◌, ◌∷◌, []}
+use Rattle.std.proofs.Common.{rules, arith, ap, length, true, false, ◌∙◌, ◌++◌, ◌∷◌, []}
 use Rattle.demi_memq.specs.declared.out.MemOut.TheVariants.{Shut}
 use Rattle.demi_memq.proofs.EachKind.{one_added, flag}
 use Rattle.demi_memq.proofs.Ending.{close_bad, close_again, close_owes, close_last}
@@ -11,25 +11,37 @@ use Rattle.std.proofs.Common.{subst, sym}
 use Rattle.demi_memq.proofs.queues.Queues.close.Goals as goal
 
 pub close_all-requires-clause-owed : goal.close_all-requires-clause-owed
-close_all-requires-clause-owed c = close_owes 1024 c.args.history.now.value c.args.outcomes.now.value c.args.self.now.made c.args.self.now.shut.items _ (items_said c.args.self.now.waiting.items) c.args.self.now.pending.items c.requires.kept (ap (option_map (λ p. p.0)) c.requires.calm) c.args.q c.if-q-self.false (flag 1024 c.args.history.now.value c.args.outcomes.now.value c.args.self.now.made c.args.self.now.shut.items _ (items_said c.args.self.now.waiting.items) c.args.self.now.pending.items c.requires.kept (ap (option_map (λ p. p.0)) c.requires.calm) c.args.q c.index.result.now false c.if-q-self.false c.index.ensures c.if-index.false)
+close_all-requires-clause-owed c = close_owes 1024 c.args.history.now.value c.args.outcomes.now.value c.args.self.now.made c.args.self.now.shut.items _ (items_said c.args.self.now.waiting.items) c.args.self.now.pending.items c.requires.ready.kept (ap (option_map (λ p. p.0)) c.requires.calm) c.args.q c.if-q-self.false (flag 1024 c.args.history.now.value c.args.outcomes.now.value c.args.self.now.made c.args.self.now.shut.items _ (items_said c.args.self.now.waiting.items) c.args.self.now.pending.items c.requires.ready.kept (ap (option_map (λ p. p.0)) c.requires.calm) c.args.q c.index.result.now false c.if-q-self.false c.index.ensures c.if-index.false)
 
-pub returns-then-q-self-clause-served : goal.returns-then-q-self-clause-served
-returns-then-q-self-clause-served c = close_bad 1024 c.args.history.now.value c.args.outcomes.now.value c.args.self.now.made c.args.self.now.shut.items _ (items_said c.args.self.now.waiting.items) c.args.self.now.pending.items c.requires.kept (ap (option_map (λ p. p.0)) c.requires.calm) c.args.q _ c.if-q-self.true (one_added c.args.done.now.added c.add.new.self.added c.args.place.0 (length c.args.history.now.value) _ c.add.ensures.added c.requires.empty c.requires.next)
+pub returns-then-q-self : goal.returns-then-q-self
+returns-then-q-self c = record {
+  served = close_bad 1024 c.args.history.now.value c.args.outcomes.now.value c.args.self.now.made c.args.self.now.shut.items _ (items_said c.args.self.now.waiting.items) c.args.self.now.pending.items c.requires.ready.kept (ap (option_map (λ p. p.0)) c.requires.calm) c.args.q _ c.if-q-self.true (one_added c.args.done.now.added c.add.new.self.added c.args.place.0 (length c.args.history.now.value) _ c.add.ensures.added c.requires.ready.empty c.requires.ready.next);
+  sound = search rules;
+  given = search rules;
+  numbers = search rules;
+  room = search rules;
+  done = search rules;
+}
 
-pub returns-then-index-clause-served : goal.returns-then-index-clause-served
-returns-then-index-clause-served c = close_again 1024 c.args.history.now.value c.args.outcomes.now.value c.args.self.now.made c.args.self.now.shut.items _ (items_said c.args.self.now.waiting.items) c.args.self.now.pending.items c.requires.kept (ap (option_map (λ p. p.0)) c.requires.calm) c.args.q _ c.if-q-self.false (flag 1024 c.args.history.now.value c.args.outcomes.now.value c.args.self.now.made c.args.self.now.shut.items _ (items_said c.args.self.now.waiting.items) c.args.self.now.pending.items c.requires.kept (ap (option_map (λ p. p.0)) c.requires.calm) c.args.q c.index.result.now true c.if-q-self.false c.index.ensures c.if-index.true) (one_added c.args.done.now.added c.add-then-index.new.self.added c.args.place.0 (length c.args.history.now.value) _ c.add-then-index.ensures.added c.requires.empty c.requires.next)
+pub returns-then-index : goal.returns-then-index
+returns-then-index c = record {
+  served = close_again 1024 c.args.history.now.value c.args.outcomes.now.value c.args.self.now.made c.args.self.now.shut.items _ (items_said c.args.self.now.waiting.items) c.args.self.now.pending.items c.requires.ready.kept (ap (option_map (λ p. p.0)) c.requires.calm) c.args.q _ c.if-q-self.false (flag 1024 c.args.history.now.value c.args.outcomes.now.value c.args.self.now.made c.args.self.now.shut.items _ (items_said c.args.self.now.waiting.items) c.args.self.now.pending.items c.requires.ready.kept (ap (option_map (λ p. p.0)) c.requires.calm) c.args.q c.index.result.now true c.if-q-self.false c.index.ensures c.if-index.true) (one_added c.args.done.now.added c.add-then-index.new.self.added c.args.place.0 (length c.args.history.now.value) _ c.add-then-index.ensures.added c.requires.ready.empty c.requires.ready.next);
+  sound = search rules;
+  given = search rules;
+  numbers = search rules;
+  room = search rules;
+  done = search rules;
+}
 
-pub returns-else-index-clause-served : goal.returns-else-index-clause-served
-returns-else-index-clause-served c =
-    close_last 1024 c.args.history.now.value c.args.outcomes.now.value c.args.self.now.made c.args.self.now.shut.items _ (items_said c.args.self.now.waiting.items) c.args.self.now.pending.items c.requires.kept (ap (option_map (λ p. p.0)) c.requires.calm) c.args.q c.close_all.new.done.added c.add-else-index.new.self.added c.close_all.new.pending.items c.if-q-self.false (flag 1024 c.args.history.now.value c.args.outcomes.now.value c.args.self.now.made c.args.self.now.shut.items _ (items_said c.args.self.now.waiting.items) c.args.self.now.pending.items c.requires.kept (ap (option_map (λ p. p.0)) c.requires.calm) c.args.q c.index.result.now false c.if-q-self.false c.index.ensures c.if-index.false) c.close_all.ensures.mid c.close_all.ensures.gone c.close_all.ensures.others
-    (c.add-else-index.ensures.added ∙ ap (λ i. c.close_all.new.done.added ++ (i, Shut) ∷ []) c.requires.next)
-
-pub returns-else-index-clause-numbers : goal.returns-else-index-clause-numbers
-returns-else-index-clause-numbers c =
-    let a = ap given c.add-else-index.ensures.added in let m = given_more c.close_all.new.done.added c.args.place.0 Shut in let n = c.close_all.ensures.none in let z = ap given c.requires.empty in
-    still_accounts c.args.self.now.pass (held c.args.self.now.waiting.items) (held c.args.self.now.waiting.items) c.add-else-index.new.self.added 0 (omega arith)
-
-pub returns-else-index-clause-given : goal.returns-else-index-clause-given
-returns-else-index-clause-given c =
-    let h = c.args.self.now.pass.heap in
-    subst (GivenOf h) (sym c.add-else-index.ensures.added) (given_of_more h c.close_all.new.done.added c.args.place.0 Shut (c.close_all.ensures.from h (subst (GivenOf h) (sym c.requires.empty) tt)) tt)
+pub returns-else-index : goal.returns-else-index
+returns-else-index c = record {
+  served = close_last 1024 c.args.history.now.value c.args.outcomes.now.value c.args.self.now.made c.args.self.now.shut.items _ (items_said c.args.self.now.waiting.items) c.args.self.now.pending.items c.requires.ready.kept (ap (option_map (λ p. p.0)) c.requires.calm) c.args.q c.close_all.new.done.added c.add-else-index.new.self.added c.close_all.new.pending.items c.if-q-self.false (flag 1024 c.args.history.now.value c.args.outcomes.now.value c.args.self.now.made c.args.self.now.shut.items _ (items_said c.args.self.now.waiting.items) c.args.self.now.pending.items c.requires.ready.kept (ap (option_map (λ p. p.0)) c.requires.calm) c.args.q c.index.result.now false c.if-q-self.false c.index.ensures c.if-index.false) c.close_all.ensures.mid c.close_all.ensures.gone c.close_all.ensures.others
+      (c.add-else-index.ensures.added ∙ ap (λ i. c.close_all.new.done.added ++ (i, Shut) ∷ []) c.requires.ready.next);
+  sound = search rules;
+  given = let h = c.args.self.now.pass.heap in
+      subst (GivenOf h) (sym c.add-else-index.ensures.added) (given_of_more h c.close_all.new.done.added c.args.place.0 Shut (c.close_all.ensures.from h (subst (GivenOf h) (sym c.requires.ready.empty) tt)) tt);
+  numbers = let a = ap given c.add-else-index.ensures.added in let m = given_more c.close_all.new.done.added c.args.place.0 Shut in let n = c.close_all.ensures.none in let z = ap given c.requires.ready.empty in
+      still_accounts c.args.self.now.pass (held c.args.self.now.waiting.items) (held c.args.self.now.waiting.items) c.add-else-index.new.self.added 0 (omega arith);
+  room = search rules;
+  done = search rules;
+}
