@@ -3,7 +3,7 @@ use crate::tables::Tables;
 use demi_port_core::Law;
 use std::marker::Model;
 
-/// Tokens for operations, which stand in one history. Any number of threads may share it, each with a pass of its own.
+/// Tokens for operations, 1 to 64 of them. The operations stand in one history. Any number of threads may share it, each with a pass of its own.
 pub struct Port<L: Law> {
     pub(crate) tables: Tables<L>,
 }
