@@ -1,10 +1,12 @@
 -- Where each place below n was fetched, the first operations by place are known.
-use Rattle.std.proofs.Common.{◌≡◌, ◌≢◌, ⊎_elim, inl, inr, ℕ, zero, suc, ◌+◌, ◌<◌, ◌≤◌, eq-eqb, ne_eqb, List, [], ◌∷◌, ◌++◌, length, sym, ap, subst, ◌∙◌, refl, arith}
+use Rattle.std.proofs.Common.{◌≡◌, ◌≢◌, ⊎_elim, inl, inr, ℕ, zero, suc, ◌+◌, ◌<◌, ◌≤◌, cond, eq-eqb, ne_eqb, List, [], ◌∷◌, ◌++◌, length, sym, ap, subst, ◌∙◌, refl, arith, append-nil}
 use mathlib.Core.Logic.{dite}
-use mathlib.Core.Option.{some}
+use mathlib.Core.Option.{some, none, some-ne-none}
+use mathlib.Core.Option as maybe
 use native.Mathlib.Decide.{ℕ_discrete}
 use lib.ListN.{get_elem?}
-use Rattle.demi_port_core.specs.History.{Among, AnyOf, Apart, Each, found, ground_from, ground_of, without}
+use Rattle.demi_port_core.specs.History.{Among, AnyOf, Apart, Each, add, found, ground_from, ground_of, without}
+use Rattle.demi_port_core.specs.Trails.{StartsWith}
 use Rattle.demi_port_core.proofs.Lists.{apart_without, each_among, one_less}
 use Rattle.demi_device.specs.Holding.{Covers}
 
@@ -74,3 +76,31 @@ module _ {D : Type 0} where
   pub ground_next : (p t : ℕ) (d : D) (l : List (ℕ × (ℕ × D))) → Apart l → Covers p l → Among (p, (t, d)) l → get_elem? (ground_of l) p ≡ some d
   ground_next p t d l apart all h = let more = covers_next p (t, d) l all h in let long = covers_length (p + 1) l apart more in let there : 0 + p ≡ p = omega arith in
       ground_at l (length l) 0 p d (omega arith) (λ j le. let k = any_found j l (more j (omega arith)) in let z : 0 + j ≡ j = omega arith in (k.0, ap (λ q. found q l) z ∙ k.1)) (ap (λ q. found q l) there ∙ among_found p t d l apart h)
+
+module _ {D : Type 0} where
+  found_any : (p : ℕ) (l : List (ℕ × (ℕ × D))) (d : D) → found p l ≡ some d → AnyOf (λ (x : ℕ × (ℕ × D)). x.0 ≡ p) l
+  found_any p [] d e = absurd (some-ne-none d (sym e))
+  found_any p (x ∷ xs) d e = dite (ℕ_discrete x.0 p) (λ same. inl same) (λ other. inr (found_any p xs d (sym (λ q. cond (ne_eqb x.0 p other q) (some x.1.1) (found p xs)) ∙ e)))
+
+  any_ground : (l : List (ℕ × (ℕ × D))) (n p k : ℕ) (d : D) → get_elem? (ground_from n p l) k ≡ some d → AnyOf (λ (x : ℕ × (ℕ × D)). x.0 ≡ p + k) l
+  any_ground l zero p k d e = absurd (some-ne-none d (sym e))
+  any_ground l (suc n) p k d e = go (λ j. any_ground l n (p + 1) j d) (found p l) k refl e
+    where
+      go : ((j : ℕ) → get_elem? (ground_from n (p + 1) l) j ≡ some d → AnyOf (λ (x : ℕ × (ℕ × D)). x.0 ≡ p + 1 + j) l) → (o : maybe.Option D) (k : ℕ) → found p l ≡ o → get_elem? (add o (ground_from n (p + 1) l)) k ≡ some d
+          → AnyOf (λ (x : ℕ × (ℕ × D)). x.0 ≡ p + k) l
+      go rest none k is e = absurd (some-ne-none d (sym e))
+      go rest (some y) zero is e = let z : p ≡ p + 0 = omega arith in subst (λ (i : ℕ). AnyOf (λ (x : ℕ × (ℕ × D)). x.0 ≡ i) l) z (found_any p l y is)
+      go rest (some y) (suc k) is e = let z : p + 1 + k ≡ p + suc k = omega arith in subst (λ (i : ℕ). AnyOf (λ (x : ℕ × (ℕ × D)). x.0 ≡ i) l) z (rest k e)
+
+  -- where the operation of the next place was not fetched, all that was fetched without a gap was served
+  pub served_ground : (l : List (ℕ × (ℕ × D))) (s : List D) → StartsWith (ground_of l) s → (AnyOf (λ (x : ℕ × (ℕ × D)). x.0 ≡ length s) l → ⊥) → ground_of l ≡ s
+  served_ground l s starts absent = go starts.0 starts.1
+    where
+      next : (t : List D) (d : D) (more : List D) → get_elem? (t ++ d ∷ more) (length t) ≡ some d
+      next [] d more = refl
+      next (x ∷ t) d more = next t d more
+
+      go : (more : List D) → ground_of l ≡ s ++ more → ground_of l ≡ s
+      go [] e = e ∙ append-nil s
+      go (d ∷ more) e = let z : 0 + length s ≡ length s = omega arith in
+          absurd (absent (subst (λ (i : ℕ). AnyOf (λ (x : ℕ × (ℕ × D)). x.0 ≡ i) l) z (any_ground l (length l) 0 (length s) d (ap (λ g. get_elem? g (length s)) e ∙ next s d more))))

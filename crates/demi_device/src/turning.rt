@@ -1,6 +1,7 @@
 //! A turn of a device.
 ghost use Rattle.std.specs.Prelude.{◌≡◌, ◌≢◌, ◌+◌, ◌<◌, ◌≤◌, ◌++◌, List, [], ◌∷◌, IsTrue, false, true, length};
 ghost use mathlib.Core.Logic.{◌↔◌};
+ghost use Rattle.demi_port_core.specs.History.{ground_of};
 ghost use Rattle.demi_port_core.specs.Trails.{StartsWith};
 ghost use Rattle.demi_device.specs.Holding.{Serves, TookIn};
 ghost use Rattle.demi_device.specs.Turning.{Agrees, GoesOn, Grows, IsAtHand, IfEnded, IfIdle, IfServed, IsOver, LookedLast, NoBell, WasQuiet, served_by};
@@ -58,7 +59,7 @@ impl<E: Engine> Device<E> {
         ensures seat { self.new.seat ≡ record self.old.seat { finished = self.new.seat.finished; trail = self.new.seat.trail; owes = self.new.seat.owes } }
         ensures grows { Grows (E.finished self.old.engine) (E.finished self.new.engine) self.old.seat self.new.seat }
         ensures served { GoesOn result (E.served self.old.engine) (E.served self.new.engine) }
-        ensures all_served { IsAtHand (length (E.served self.new.engine)) self.new.seat → ⊥ }
+        ensures all_served { (ground_of self.new.seat.fetched ≡ E.served self.new.engine) × (IsAtHand (length (E.served self.new.engine)) self.new.seat → ⊥) }
         ensures none { result ≡ 0 → self.new ≡ self.old }
         ensures serves { Serves E.L.told E.L.admits E.L.may_pend E.L.stops (E.base self.new.engine) (E.room self.new.engine) (length (E.served self.new.engine)) (E.served self.new.engine) (E.finished self.new.engine) self.new.seat }
     {
@@ -78,7 +79,7 @@ impl<E: Engine> Device<E> {
     }
 
     /// Takes the doorbells, fetches what rang, keeps what came early, serves each operation whose place is next, and finishes what
-    /// the engine added. After it the operation of the next place is not there: all that was fetched without a gap is served.
+    /// the engine added. After it the engine was served all that was fetched without a gap: the next operation is not there.
     /// It waits for nothing and takes no memory.
     pub fn turn(&mut self, port: &Port<E::L>) -> Turn
         requires port { self.old.seat.port ≡ port.now }
@@ -89,7 +90,7 @@ impl<E: Engine> Device<E> {
         ensures some { IfServed result (λ n. 1 ≤ n) }
         ensures looked { LookedLast self.old.seat self.new.seat }
         ensures taken { NoBell port.now.tokens.slots self.new.seat.rang }
-        ensures all_served { IsAtHand (length (E.served self.new.engine)) self.new.seat → ⊥ }
+        ensures all_served { (ground_of self.new.seat.fetched ≡ E.served self.new.engine) × (IsAtHand (length (E.served self.new.engine)) self.new.seat → ⊥) }
         ensures grows { Grows (E.finished self.old.engine) (E.finished self.new.engine) self.old.seat self.new.seat }
         ensures agrees { Agrees E.L.told (E.L.admits (E.base self.new.engine)) (E.served self.new.engine) (E.finished self.new.engine) self.new.seat }
         ensures pends { EachMayPend (E.L.may_pend (E.served self.new.engine)) (length (E.served self.new.engine)) (places (E.finished self.new.engine)) }
@@ -130,7 +131,7 @@ impl<E: Engine> Device<E> {
         ensures served { StartsWith (E.served self.new.engine) (E.served self.old.engine) }
         ensures quiet { WasQuiet self.old.seat self.new.seat }
         ensures over { IsOver E.L.stops (E.served self.new.engine) self.new.seat }
-        ensures all_served { IsAtHand (length (E.served self.new.engine)) self.new.seat → ⊥ }
+        ensures all_served { (ground_of self.new.seat.fetched ≡ E.served self.new.engine) × (IsAtHand (length (E.served self.new.engine)) self.new.seat → ⊥) }
         ensures ends { NonePends (length (E.served self.new.engine)) (places (E.finished self.new.engine)) }
         ensures grows { Grows (E.finished self.old.engine) (E.finished self.new.engine) self.old.seat self.new.seat }
         ensures agrees { Agrees E.L.told (E.L.admits (E.base self.new.engine)) (E.served self.new.engine) (E.finished self.new.engine) self.new.seat }

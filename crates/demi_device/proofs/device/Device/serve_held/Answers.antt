@@ -1,6 +1,7 @@
 use Rattle.std.proofs.Common.{[], ◌∷◌, length, refl, ap, ◌∙◌, arith, length-append}
 use Rattle.demi_port.proofs.Devices.{starts_more}
 use Rattle.demi_device.proofs.Growing.{grows_on}
+use Rattle.demi_device.proofs.Gapless.{served_ground}
 use Rattle.demi_device.proofs.device.Device.serve_held.Goals as goal
 
 pub loop-preserved : goal.loop-preserved
@@ -23,3 +24,6 @@ returns-clause-none g c nothing = let E = g.E.Engine in let i = c.loop.invariant
     let fetched = ap (λ z. length z.seat.fetched) same ∙ ap (λ z. length z.fetched) i.seat in let served = ap (λ z. length (E.served z.engine)) same in
     let n = ap length i.served.1 in let m = length-append (E.served c.args.self.now.engine) i.served.0 in
     same ∙ i.none (omega arith)
+
+pub returns-clause-all_served : goal.returns-clause-all_served
+returns-clause-all_served g c = let s = c.loop-test.ensures in let none = (s.none refl).1 in (served_ground c.serve_next.new.self.seat.fetched (g.E.Engine.served c.serve_next.new.self.engine) s.serves.begins none, none)
