@@ -22,7 +22,7 @@ pub struct MemDisk {
 
 impl MemDisk {
     ghost use Rattle.std.specs.Prelude.{◌+◌, Some, length, IfOk};
-    ghost use Rattle.demi_core.specs.Fakes.{disk_reads, disk_room, disk_writes, NothingListed, planned};
+    ghost use Rattle.demi_core.specs.Fakes.{disk_seen, NothingListed, planned};
 
     /// A disk that holds these bytes, with room for so many. It fails the calls of `append` and `cut`, counted together
     /// from 0, whose numbers stand in `fail`, and leaves its bytes there.
@@ -33,12 +33,8 @@ impl MemDisk {
         fail: Vec<u64>,
     ) -> Result<MemDisk, NoMemory>
         requires { length bytes.now ≤ room }
-        ensures bytes { IfOk result (λ disk. ⟦<MemDisk as Disk>⟧.bytes disk ≡ Some bytes.now) }
-        ensures held { IfOk result (λ disk. ⟦<MemDisk as Disk>⟧.held disk ≡ length bytes.now) }
-        ensures faults { IfOk result (λ disk. ⟦<MemDisk as Disk>⟧.faults disk ≡ 0) }
-        ensures room { IfOk result (λ disk. disk_room disk ≡ room) }
-        ensures writes { IfOk result (λ disk. disk_writes disk ≡ planned fail) }
-        ensures reads { IfOk result (λ disk. NothingListed (disk_reads disk)) }
+        ensures made { IfOk result (λ disk. disk_seen disk ≡ record (disk_seen disk) { bytes = bytes.now; room = room; writes = planned fail; faults = 0 }) }
+        ensures reads { IfOk result (λ disk. NothingListed (disk_seen disk).reads) }
     {
         let mut held = Vec::with_capacity(alloc, room)?;
         held.extend_from_slice(bytes)?;
@@ -53,12 +49,7 @@ impl MemDisk {
 
     /// From now on it fails the calls of `size` and `read_at`, counted together from 0, whose numbers stand in `calls`.
     pub fn fail_reads(&mut self, calls: Vec<u64>)
-        ensures bytes { ⟦<MemDisk as Disk>⟧.bytes self.new ≡ ⟦<MemDisk as Disk>⟧.bytes self.old }
-        ensures held { ⟦<MemDisk as Disk>⟧.held self.new ≡ ⟦<MemDisk as Disk>⟧.held self.old }
-        ensures faults { ⟦<MemDisk as Disk>⟧.faults self.new ≡ ⟦<MemDisk as Disk>⟧.faults self.old }
-        ensures room { disk_room self.new ≡ disk_room self.old }
-        ensures writes { disk_writes self.new ≡ disk_writes self.old }
-        ensures reads { disk_reads self.new ≡ planned calls }
+        ensures { disk_seen self.new ≡ record (disk_seen self.old) { reads = planned calls } }
     {
         self.reads = Calls::new(calls);
     }
@@ -75,23 +66,23 @@ impl Disk for MemDisk {
     ghost use Rattle.std.specs.Prelude.{refl, Bool, is_ok, List, Some, ◌+◌, ◌-◌, ◌⊎◌, ◌↔◌, length, take, drop, min, IfOk, OnOk, OnErr, IsErr, IfSome};
     ghost use Rattle.std.specs.Io.KnownBytes.{append_known};
     ghost use Rattle.demi_core.specs.Outside.{HasCause, GrowsByFront, Cut, disk_max};
-    ghost use Rattle.demi_core.specs.Fakes.{AppendFails, CutFails, DiskAppends, DiskCuts, DiskLooks, DiskReadFails, counted, looks_same, looks_on, disk_bytes, disk_faults, disk_held, disk_reads, disk_room, disk_writes};
+    ghost use Rattle.demi_core.specs.Fakes.{AppendFails, CutFails, DiskAppends, DiskCuts, DiskLooks, DiskReadFails, counted, disk_seen, looks_same, looks_on};
 
-    ghost held = { disk_held };
+    ghost held = { λ d. length (disk_seen d).bytes };
 
-    ghost bytes = { disk_bytes };
+    ghost bytes = { λ d. Some (disk_seen d).bytes };
 
-    ghost faults = { disk_faults };
+    ghost faults = { λ d. (disk_seen d).faults };
 
-    ghost appends = { DiskAppends };
+    ghost appends = { λ d piece ok e. DiskAppends (disk_seen d) piece ok (disk_seen e) };
 
-    ghost cuts = { DiskCuts };
+    ghost cuts = { λ d len ok e. DiskCuts (disk_seen d) len ok (disk_seen e) };
 
-    ghost looks = { DiskLooks };
+    ghost looks = { λ d e. DiskLooks (disk_seen d) (disk_seen e) };
 
-    ghost looks_same = { looks_same };
+    ghost looks_same = { λ d. looks_same (disk_seen d) };
 
-    ghost looks_on = { looks_on };
+    ghost looks_on = { λ a b c. looks_on (disk_seen a) (disk_seen b) (disk_seen c) };
 
     ghost told_held = { λ d. refl };
 
@@ -99,15 +90,15 @@ impl Disk for MemDisk {
 
     // The clauses of the trait, and when the call fails.
     fn size(&mut self) -> Result<u64, Failed>
-        ensures call { DiskLooks self.old self.new }
-        ensures held { IfOk result (λ size. (size ≡ disk_held self.old) × (size ≤ disk_max)) }
-        ensures same_held { disk_held self.new ≡ disk_held self.old }
-        ensures same_bytes { disk_bytes self.new ≡ disk_bytes self.old }
-        ensures cause { HasCause (disk_faults self.old) (disk_faults self.new) result }
-        ensures fails { IsErr result ↔ DiskReadFails self.old }
-        ensures reads { disk_reads self.new ≡ counted (disk_reads self.old) }
-        ensures writes { disk_writes self.new ≡ disk_writes self.old }
-        ensures space { disk_room self.new ≡ disk_room self.old }
+        ensures call { DiskLooks (disk_seen self.old) (disk_seen self.new) }
+        ensures held { IfOk result (λ size. (size ≡ length (disk_seen self.old).bytes) × (size ≤ disk_max)) }
+        ensures same_held { length (disk_seen self.new).bytes ≡ length (disk_seen self.old).bytes }
+        ensures same_bytes { Some (disk_seen self.new).bytes ≡ Some (disk_seen self.old).bytes }
+        ensures cause { HasCause (disk_seen self.old).faults (disk_seen self.new).faults result }
+        ensures fails { IsErr result ↔ DiskReadFails (disk_seen self.old) }
+        ensures reads { (disk_seen self.new).reads ≡ counted (disk_seen self.old).reads }
+        ensures writes { (disk_seen self.new).writes ≡ (disk_seen self.old).writes }
+        ensures space { (disk_seen self.new).room ≡ (disk_seen self.old).room }
     {
         if self.reads.next_fails() || self.bytes.len() > MAX_HELD_BYTES {
             self.faults = self.faults.saturating_add(1);
@@ -119,21 +110,21 @@ impl Disk for MemDisk {
     // The clauses of the trait, when the call fails, and that it gives all that fits the room.
     fn read_at(&mut self, at: u64, room: &mut [u8]) -> Result<usize, Failed>
         requires { 0 < length room.old }
-        ensures call { DiskLooks self.old self.new }
+        ensures call { DiskLooks (disk_seen self.old) (disk_seen self.new) }
         ensures within { IfOk result (λ k. k ≤ length room.new) }
-        ensures there { IfOk result (λ k. k ≤ disk_held self.old - at) }
-        ensures end { IfOk result (λ k. (k ≡ 0) ↔ (disk_held self.old ≤ at)) }
+        ensures there { IfOk result (λ k. k ≤ length (disk_seen self.old).bytes - at) }
+        ensures end { IfOk result (λ k. (k ≡ 0) ↔ (length (disk_seen self.old).bytes ≤ at)) }
         ensures room { IfOk result (λ k. drop k room.new ≡ drop k room.old) }
-        ensures bytes { IfOk result (λ k. IfSome (disk_bytes self.old) (λ b. take k room.new ≡ take k (drop at b))) }
-        ensures most { OnOk result (disk_held self.old ≤ disk_max) }
-        ensures same_held { disk_held self.new ≡ disk_held self.old }
-        ensures same_bytes { disk_bytes self.new ≡ disk_bytes self.old }
-        ensures cause { HasCause (disk_faults self.old) (disk_faults self.new) result }
-        ensures fails { IsErr result ↔ DiskReadFails self.old }
-        ensures count { IfOk result (λ k. k ≡ min (length room.old) (disk_held self.old - at)) }
-        ensures reads { disk_reads self.new ≡ counted (disk_reads self.old) }
-        ensures writes { disk_writes self.new ≡ disk_writes self.old }
-        ensures space { disk_room self.new ≡ disk_room self.old }
+        ensures bytes { IfOk result (λ k. take k room.new ≡ take k (drop at (disk_seen self.old).bytes)) }
+        ensures most { OnOk result (length (disk_seen self.old).bytes ≤ disk_max) }
+        ensures same_held { length (disk_seen self.new).bytes ≡ length (disk_seen self.old).bytes }
+        ensures same_bytes { Some (disk_seen self.new).bytes ≡ Some (disk_seen self.old).bytes }
+        ensures cause { HasCause (disk_seen self.old).faults (disk_seen self.new).faults result }
+        ensures fails { IsErr result ↔ DiskReadFails (disk_seen self.old) }
+        ensures count { IfOk result (λ k. k ≡ min (length room.old) (length (disk_seen self.old).bytes - at)) }
+        ensures reads { (disk_seen self.new).reads ≡ counted (disk_seen self.old).reads }
+        ensures writes { (disk_seen self.new).writes ≡ (disk_seen self.old).writes }
+        ensures space { (disk_seen self.new).room ≡ (disk_seen self.old).room }
     {
         if self.reads.next_fails() || self.bytes.len() > MAX_HELD_BYTES {
             self.faults = self.faults.saturating_add(1);
@@ -150,17 +141,17 @@ impl Disk for MemDisk {
 
     // The clauses of the trait, when the call fails, and that it leaves the bytes there.
     fn append(&mut self, piece: &[u8]) -> Result<(), Failed>
-        ensures call { DiskAppends self.old piece.now (is_ok result) self.new }
-        ensures bytes { OnOk result (disk_bytes self.new ≡ append_known (disk_bytes self.old) piece.now) }
-        ensures held { OnOk result (disk_held self.new ≡ disk_held self.old + length piece.now) }
-        ensures most { OnOk result (disk_held self.new ≤ disk_max) }
-        ensures failed { OnErr result (GrowsByFront (disk_bytes self.old) (disk_bytes self.new) (disk_held self.old) (disk_held self.new) piece.now) }
-        ensures cause { HasCause (disk_faults self.old) (disk_faults self.new) result }
-        ensures fails { IsErr result ↔ AppendFails self.old (length piece.now) }
-        ensures stays { OnErr result (disk_bytes self.new ≡ disk_bytes self.old) }
-        ensures writes { disk_writes self.new ≡ counted (disk_writes self.old) }
-        ensures reads { disk_reads self.new ≡ disk_reads self.old }
-        ensures space { disk_room self.new ≡ disk_room self.old }
+        ensures call { DiskAppends (disk_seen self.old) piece.now (is_ok result) (disk_seen self.new) }
+        ensures bytes { OnOk result (Some (disk_seen self.new).bytes ≡ append_known (Some (disk_seen self.old).bytes) piece.now) }
+        ensures held { OnOk result (length (disk_seen self.new).bytes ≡ length (disk_seen self.old).bytes + length piece.now) }
+        ensures most { OnOk result (length (disk_seen self.new).bytes ≤ disk_max) }
+        ensures failed { OnErr result (GrowsByFront (Some (disk_seen self.old).bytes) (Some (disk_seen self.new).bytes) (length (disk_seen self.old).bytes) (length (disk_seen self.new).bytes) piece.now) }
+        ensures cause { HasCause (disk_seen self.old).faults (disk_seen self.new).faults result }
+        ensures fails { IsErr result ↔ AppendFails (disk_seen self.old) (length piece.now) }
+        ensures stays { OnErr result (Some (disk_seen self.new).bytes ≡ Some (disk_seen self.old).bytes) }
+        ensures writes { (disk_seen self.new).writes ≡ counted (disk_seen self.old).writes }
+        ensures reads { (disk_seen self.new).reads ≡ (disk_seen self.old).reads }
+        ensures space { (disk_seen self.new).room ≡ (disk_seen self.old).room }
     {
         let most = self.room.min(MAX_HELD_BYTES);
         if self.writes.next_fails()
@@ -179,18 +170,18 @@ impl Disk for MemDisk {
 
     // The clauses of the trait, when the call fails, and that it leaves the bytes there.
     fn cut(&mut self, len: u64) -> Result<(), Failed>
-        requires { len ≤ disk_held self.old }
-        ensures call { DiskCuts self.old len (is_ok result) self.new }
-        ensures cut { OnOk result (Cut (disk_bytes self.old) (disk_bytes self.new) (disk_held self.new) len) }
-        ensures most { OnOk result (disk_held self.old ≤ disk_max) }
-        ensures failed { OnErr result (Cut (disk_bytes self.old) (disk_bytes self.new) (disk_held self.new) len
-            ⊎ ((disk_bytes self.new ≡ disk_bytes self.old) × (disk_held self.new ≡ disk_held self.old))) }
-        ensures cause { HasCause (disk_faults self.old) (disk_faults self.new) result }
-        ensures fails { IsErr result ↔ CutFails self.old }
-        ensures stays { OnErr result (disk_bytes self.new ≡ disk_bytes self.old) }
-        ensures writes { disk_writes self.new ≡ counted (disk_writes self.old) }
-        ensures reads { disk_reads self.new ≡ disk_reads self.old }
-        ensures space { disk_room self.new ≡ disk_room self.old }
+        requires { len ≤ length (disk_seen self.old).bytes }
+        ensures call { DiskCuts (disk_seen self.old) len (is_ok result) (disk_seen self.new) }
+        ensures cut { OnOk result (Cut (Some (disk_seen self.old).bytes) (Some (disk_seen self.new).bytes) (length (disk_seen self.new).bytes) len) }
+        ensures most { OnOk result (length (disk_seen self.old).bytes ≤ disk_max) }
+        ensures failed { OnErr result (Cut (Some (disk_seen self.old).bytes) (Some (disk_seen self.new).bytes) (length (disk_seen self.new).bytes) len
+            ⊎ ((Some (disk_seen self.new).bytes ≡ Some (disk_seen self.old).bytes) × (length (disk_seen self.new).bytes ≡ length (disk_seen self.old).bytes))) }
+        ensures cause { HasCause (disk_seen self.old).faults (disk_seen self.new).faults result }
+        ensures fails { IsErr result ↔ CutFails (disk_seen self.old) }
+        ensures stays { OnErr result (Some (disk_seen self.new).bytes ≡ Some (disk_seen self.old).bytes) }
+        ensures writes { (disk_seen self.new).writes ≡ counted (disk_seen self.old).writes }
+        ensures reads { (disk_seen self.new).reads ≡ (disk_seen self.old).reads }
+        ensures space { (disk_seen self.new).room ≡ (disk_seen self.old).room }
     {
         if self.writes.next_fails() || self.bytes.len() > MAX_HELD_BYTES {
             self.faults = self.faults.saturating_add(1);
