@@ -1,6 +1,5 @@
 -- What the device leaves behind.
 use Rattle.std.specs.Prelude.{◌≡◌, length}
-use Rattle.demi_port.specs.Seen.{DeviceValue}
 use Rattle.demi_device.specs.Turning.{WholeDevice}
 use Rattle.demi_bench.specs.declared.doubler.Doubler.{Doubler}
 
