@@ -46,7 +46,8 @@ bytes_push made gave =
 below_or_at : (n m : ℕ) → n < m + 1 → (n < m) ⊎ (n ≡ m)
 below_or_at n m less = grind arith
 
-due_at : (made : List (Option (List ℕ))) (gave : Option (List ℕ)) (said : List ℕ) → EachIsDue made said → IsDue made said → (n : ℕ) → (n < length made) ⊎ (n ≡ length made) → IsDue (take n (made ++ gave ∷ [])) said
+due_at : (made : List (Option (List ℕ))) (gave : Option (List ℕ)) (said : List ℕ) → EachIsDue made said → IsDue made said
+    → (n : ℕ) → (n < length made) ⊎ (n ≡ length made) → IsDue (take n (made ++ gave ∷ [])) said
 due_at made gave said each one n (inl less) =
     let within : n ≤ length made = omega arith in
     subst (λ (l : List (Option (List ℕ))). IsDue l said) (sym (take-append-le n made (gave ∷ []) within)) (each n less)
@@ -129,7 +130,8 @@ reading_answered read room old new rs qs q rest after r takes is =
     let asks : asks_of (rs ++ q ∷ []) ≡ asks_of rs ++ Request_of q ∷ [] = map-append Request_of rs (q ∷ []) in
     let said : said_to (asks_of (rs ++ q ∷ [])) ≡ said_to (asks_of rs) ++ next_reply (asks_of rs) (Request_of q) = ap said_to asks ∙ said_push (asks_of rs) (Request_of q) in
     subst (λ (l : List Request). Reading read room old new (flat_map spelling l ++ after) (said_to (asks_of l))) (sym is)
-    (reading_said read room old new (flat_map spelling rs ++ rest) (flat_map spelling (rs ++ q ∷ []) ++ after) (said_to (asks_of rs)) (said_to (asks_of (rs ++ q ∷ []))) (next_reply (asks_of rs) (Request_of q)) r text said)
+    (reading_said read room old new (flat_map spelling rs ++ rest) (flat_map spelling (rs ++ q ∷ []) ++ after) (said_to (asks_of rs)) (said_to (asks_of (rs ++ q ∷ [])))
+    (next_reply (asks_of rs) (Request_of q)) r text said)
 
 -- it ends with no read more
 pub only_so_far : {Source : Type 0} (read : Source → ℕ → Option (List ℕ) → Source → Type 0) (room : ℕ) (old new : Source) (link kept : Link) (text said more : List ℕ) (w : Option (List ℕ))
