@@ -1,5 +1,5 @@
 -- The reads of a run over one link, from turn to turn.
-use Rattle.std.proofs.Common.{subst, ◌≡◌, ℕ, ◌+◌, ◌<◌, ◌≤◌, false, List, [], ◌∷◌, ◌++◌, length, take, map, Option, Some, refl, ap, sym, ◌∙◌, arith, flat_map, append_assoc, length-append, ◌⊎◌, inl, inr}
+use Rattle.std.proofs.Common.{subst, ◌≡◌, ◌≢◌, ℕ, ◌+◌, ◌<◌, ◌≤◌, false, List, [], ◌∷◌, ◌++◌, length, take, map, Option, Some, refl, ap, sym, ◌∙◌, arith, flat_map, append_assoc, length-append, ◌⊎◌, inl, inr}
 use Rattle.std.specs.Prelude.{unwrap_or, Result, Ok, Err, IfOk, IfErr}
 use Rattle.std.specs.Io.KnownBytes.{prepend_known, append_known}
 use Rattle.std.proofs.lemmas.List.{append-nil, map-append, take-append-le, take_all}
@@ -7,9 +7,9 @@ use Rattle.std.proofs.lemmas.Grind.{flat_map-append}
 use Rattle.demi_core.specs.Outside.{Reads, bytes_given}
 use Rattle.demi_core.specs.World.{Link, SameSources, WorldState}
 use Rattle.demi_spec.specs.Request.{Request, AllGoOn, spelling}
-use Rattle.demi_spec.specs.Input.{Open, Ends, Parses, Takes, Asked, Request_of, front}
+use Rattle.demi_spec.specs.Input.{Ending, Open, Ends, Parses, Takes, Asked, Request_of, front}
 use Rattle.demi_spec.specs.Record.{Record}
-use Rattle.demi_spec.proofs.Parsing.{read_on}
+use Rattle.demi_spec.proofs.Parsing.{one_parse, read_on}
 use Rattle.demi_store.specs.Contents.{Contents}
 use Rattle.demi_store.proofs.Growth.{append-none}
 use Rattle.demi_cli.specs.declared.serving.Fault.{Fault}
@@ -46,7 +46,8 @@ bytes_push made gave =
 below_or_at : (n m : ℕ) → n < m + 1 → (n < m) ⊎ (n ≡ m)
 below_or_at n m less = grind arith
 
-due_at : (made : List (Option (List ℕ))) (gave : Option (List ℕ)) (said : List ℕ) → EachIsDue made said → IsDue made said → (n : ℕ) → (n < length made) ⊎ (n ≡ length made) → IsDue (take n (made ++ gave ∷ [])) said
+due_at : (made : List (Option (List ℕ))) (gave : Option (List ℕ)) (said : List ℕ) → EachIsDue made said → IsDue made said
+    → (n : ℕ) → (n < length made) ⊎ (n ≡ length made) → IsDue (take n (made ++ gave ∷ [])) said
 due_at made gave said each one n (inl less) =
     let within : n ≤ length made = omega arith in
     subst (λ (l : List (Option (List ℕ))). IsDue l said) (sym (take-append-le n made (gave ∷ []) within)) (each n less)
@@ -129,7 +130,8 @@ reading_answered read room old new rs qs q rest after r takes is =
     let asks : asks_of (rs ++ q ∷ []) ≡ asks_of rs ++ Request_of q ∷ [] = map-append Request_of rs (q ∷ []) in
     let said : said_to (asks_of (rs ++ q ∷ [])) ≡ said_to (asks_of rs) ++ next_reply (asks_of rs) (Request_of q) = ap said_to asks ∙ said_push (asks_of rs) (Request_of q) in
     subst (λ (l : List Request). Reading read room old new (flat_map spelling l ++ after) (said_to (asks_of l))) (sym is)
-    (reading_said read room old new (flat_map spelling rs ++ rest) (flat_map spelling (rs ++ q ∷ []) ++ after) (said_to (asks_of rs)) (said_to (asks_of (rs ++ q ∷ []))) (next_reply (asks_of rs) (Request_of q)) r text said)
+    (reading_said read room old new (flat_map spelling rs ++ rest) (flat_map spelling (rs ++ q ∷ []) ++ after) (said_to (asks_of rs)) (said_to (asks_of (rs ++ q ∷ [])))
+    (next_reply (asks_of rs) (Request_of q)) r text said)
 
 -- it ends with no read more
 pub only_so_far : {Source : Type 0} (read : Source → ℕ → Option (List ℕ) → Source → Type 0) (room : ℕ) (old new : Source) (link kept : Link) (text said more : List ℕ) (w : Option (List ℕ))
@@ -213,3 +215,7 @@ only_between read taken left faults next next' kept kept' old old' new new' (inr
 -- the sources of a world stay
 pub same_still : {Source : Type 0} (sources : ℕ → Source → Type 0) → SameSources sources sources
 same_still sources number source = (λ is. is, λ is. is)
+
+-- behind an end frame or a refused frame no read is due
+pub none_after_the_end : (earlier : List (Option (List ℕ))) (said : List ℕ) (requests : List Request) (how : Ending) → Parses requests how false (bytes_given earlier) → how ≢ Open → IsDue earlier said → ⊥
+none_after_the_end earlier said requests how parses closed due = closed (one_parse requests due.requests how Open false (bytes_given earlier) parses due.parses).1

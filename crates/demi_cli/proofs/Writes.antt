@@ -11,7 +11,8 @@ more_written o n m piece at k first second =
     second ∙ ap (λ (x : Option (List ℕ)). append_known x (take k (drop at piece))) first ∙ append-append o (take at piece) (take k (drop at piece)) ∙ ap (append_known o) (sym (take-add at k piece))
 
 -- some bytes more of two pieces, the first of which is not written whole
-pub more_of_both : (o n m : Option (List ℕ)) (first second : List ℕ) (at k : ℕ) → at ≤ length first → n ≡ append_known o (take at (first ++ second)) → m ≡ append_known n (take k (drop at first ++ second))
+pub more_of_both : (o n m : Option (List ℕ)) (first second : List ℕ) (at k : ℕ) → at ≤ length first
+    → n ≡ append_known o (take at (first ++ second)) → m ≡ append_known n (take k (drop at first ++ second))
     → m ≡ append_known o (take (at + k) (first ++ second))
 more_of_both o n m first second at k within before more =
     more_written o n m (first ++ second) at k before (more ∙ ap (λ (t : List ℕ). append_known n (take k t)) (sym (drop-append-le at first second within)))
@@ -22,7 +23,8 @@ left_of_both first second at whole =
     let is : at ≡ length first + (at - length first) = omega arith in
     ap (λ n. drop n (first ++ second)) is ∙ drop-append-add first second (at - length first)
 
-pub rest_of_both : (o n m : Option (List ℕ)) (first second : List ℕ) (at : ℕ) → length first ≤ at → n ≡ append_known o (take at (first ++ second)) → m ≡ append_known n (drop (at - length first) second)
+pub rest_of_both : (o n m : Option (List ℕ)) (first second : List ℕ) (at : ℕ) → length first ≤ at
+    → n ≡ append_known o (take at (first ++ second)) → m ≡ append_known n (drop (at - length first) second)
     → m ≡ append_known o (first ++ second)
 rest_of_both o n m first second at whole before rest =
     rest ∙ ap (λ (x : Option (List ℕ)). append_known x (drop (at - length first) second)) before ∙ append-append o (take at (first ++ second)) (drop (at - length first) second)

@@ -12,6 +12,7 @@ abbrev pub GaveSome : Option (List ℕ) → Type 0
 GaveSome None = ⊥
 GaveSome (Some bytes) = 0 < length bytes
 
+-- each of these reads did
 abbrev pub EachGaveSome : List (Option (List ℕ)) → Type 0
 EachGaveSome [] = Unit {0}
 EachGaveSome (gave ∷ later) = GaveSome gave × EachGaveSome later

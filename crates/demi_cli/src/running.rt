@@ -141,7 +141,8 @@ fn pipe_log(words: &Vec<String>) -> Option<&str>
 /// | 8 | only where the world's count of faults rose; no link is taken |
 ///
 /// Whatever the status, nothing more of the link is read after the end frame, a refused frame, the end of the input or a
-/// fault: each read is made only where all before it gave whole requests, and these are answered.
+/// fault: behind each read but the last there are whole requests and at most a part of one more, and the link is told the
+/// whole replies to these requests.
 ///
 /// Not promised: that memory is found.
 pub fn run<W: World>(alloc: Global, words: &Vec<String>, world: &mut W) -> u8

@@ -46,5 +46,6 @@ returns-clause-reads g c =
     let k = rw c.disk.ensures at c.keep_log-2.ensures.kept in
     only_between g.W.In.Source.reads g.W.In.Source.taken g.W.In.Source.left g.W.In.Source.faults
     (g.W.World.next_source c.log.new.self) (g.W.World.next_source c.args.world.now) (g.W.World.kept_source c.over_link-outcome.new.world) (g.W.World.kept_source c.keep_log-2.new.self)
-    (state c.log.new.self) (state c.args.world.now) (state c.over_link-outcome.new.world) (state c.keep_log-2.new.self) c.over_link-outcome.ensures.reads c.log.ensures.next_sources c.keep_log-2.ensures.kept_sources
+    (state c.log.new.self) (state c.args.world.now) (state c.over_link-outcome.new.world) (state c.keep_log-2.new.self)
+    c.over_link-outcome.ensures.reads c.log.ensures.next_sources c.keep_log-2.ensures.kept_sources
     (sym (ap (λ (w : WorldState). w.given_links) c.in-Ok.ensures.given)) (ap (λ (w : WorldState). w.given_links) k) (ap (λ (w : WorldState). w.kept_link 0) k)

@@ -61,5 +61,6 @@ returns-clause-reads g c =
     let same = clauses.same_but c.pipe-outcome.result (state c.pipe-outcome.new.world) (state c.report-2.new.world) c.report-2.ensures.warned in
     only_between g.W.In.Source.reads g.W.In.Source.taken g.W.In.Source.left g.W.In.Source.faults
     (g.W.World.next_source c.args.world.now) (g.W.World.next_source c.args.world.now) (g.W.World.kept_source c.pipe-outcome.new.world) (g.W.World.kept_source c.report-2.new.world)
-    (state c.args.world.now) (state c.args.world.now) (state c.pipe-outcome.new.world) (state c.report-2.new.world) c.pipe-outcome.ensures.reads (same_still (g.W.World.next_source c.args.world.now)) c.report-2.ensures.kept_sources
+    (state c.args.world.now) (state c.args.world.now) (state c.pipe-outcome.new.world) (state c.report-2.new.world)
+    c.pipe-outcome.ensures.reads (same_still (g.W.World.next_source c.args.world.now)) c.report-2.ensures.kept_sources
     refl (ap (λ (w : WorldState). w.given_links) same) (ap (λ (w : WorldState). w.kept_link 0) same)

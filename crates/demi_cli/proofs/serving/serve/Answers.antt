@@ -190,7 +190,8 @@ serving-preserved-in-More g c =
     let all : c.feed.result ≡ length piece = c.feed.ensures.whole more.2 small in
     let is : c.feed.new.self.rest ≡ d.rest ++ piece = ap (λ (x : Decoding). x.rest) fed ∙ ap (λ (t : List ℕ). t ++ take c.feed.result piece) more.1
     ∙ ap (λ (t : List ℕ). d.rest ++ t) (take_all c.feed.result piece (omega arith)) in
-    let so = so_more (left c.args.source.now) (left c.serving.source) (left c.read.new.self) (taken c.args.source.now) (taken c.serving.source) (taken c.read.new.self) d.rest piece c.feed.new.self.rest _ _ _ _ _ _
+    let so = so_more (left c.args.source.now) (left c.serving.source) (left c.read.new.self) (taken c.args.source.now) (taken c.serving.source) (taken c.read.new.self)
+    d.rest piece c.feed.new.self.rest _ _ _ _ _ _
     i.so e.bytes (e.taken ∙ ap (λ n. taken c.serving.source + n) (sym long)) is in
     let call = subst (λ n. g.I.Source.reads c.serving.source n (Some piece) c.read.new.self) i.room e.call in
     let some : 0 < length piece = omega (arith, c.if-given-eq0.false) in
@@ -217,7 +218,8 @@ returns-in_default-clause-reads g c =
     let call = subst (λ n. g.I.Source.reads c.serving.source n None c.read.new.self) i.room e.call in
     only_and_last g.I.Source.reads (length c.args.room.now) c.args.source.now c.serving.source c.read.new.self _ _ i.so.requests c.serving.decoder.rest []
     (left c.serving.source) (taken c.serving.source) (g.O.Sink.written c.serving.sink) None
-    i.reading i.so.go_on more.0 i.so.left i.so.taken call (gave_none (left c.serving.source) (left c.read.new.self) e.failed_left) (omega (arith, e.failed_taken)) i.so.says (append-none (g.O.Sink.written c.serving.sink))
+    i.reading i.so.go_on more.0 i.so.left i.so.taken call
+    (gave_none (left c.serving.source) (left c.read.new.self) e.failed_left) (omega (arith, e.failed_taken)) i.so.says (append-none (g.O.Sink.written c.serving.sink))
 
 pub returns-in-Some-clause-reads : goal.returns-in-Some-clause-reads
 returns-in-Some-clause-reads g c =
@@ -231,7 +233,8 @@ returns-in-Some-clause-reads g c =
     let within : given ≤ length c.read.new.room = e.within in
     let long : length piece ≡ given = omega (arith, length-take given c.read.new.room) in
     let call = subst (λ n. g.I.Source.reads c.serving.source n (Some piece) c.read.new.self) i.room e.call in
-    let said = end_says _ _ c.refuse.result [] c.serving.count (Refused_end c.in-Some.code) (g.O.Sink.written c.serving.sink) (g.O.Sink.written c.refuse.new.sink) c.refuse.ensures.all c.refuse.ensures.front in
+    let said = end_says _ _ c.refuse.result [] c.serving.count (Refused_end c.in-Some.code) (g.O.Sink.written c.serving.sink) (g.O.Sink.written c.refuse.new.sink)
+    c.refuse.ensures.all c.refuse.ensures.front in
     only_and_last g.I.Source.reads (length c.args.room.now) c.args.source.now c.serving.source c.read.new.self _ _ i.so.requests c.serving.decoder.rest said.0
     (left c.serving.source) (taken c.serving.source) (g.O.Sink.written c.serving.sink) (Some piece)
     i.reading i.so.go_on more.0 i.so.left i.so.taken call e.bytes (e.taken ∙ ap (λ n. taken c.serving.source + n) (sym long)) i.so.says said.1
