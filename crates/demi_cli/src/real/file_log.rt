@@ -28,7 +28,8 @@ pub struct FileLog {
 }
 
 impl FileLog {
-    // The file of that name, made empty where there is none. None at an error, of a file that is too large, and where
+    // The file of that name, made empty where there is none, and locked as long as it is open: two writers would tear
+    // each other's log. None at an error, of a file that another opening has locked or that is too large, and where
     // the file would get the descriptor of a standard stream that is closed: what is meant for that stream would go
     // into the log, and what stands in the log would come as input.
     pub(super) fn open(rt: &HostRuntime, name: &str) -> Option<FileLog>
@@ -37,6 +38,9 @@ impl FileLog {
         let mut options = OpenOptions::new();
         options.read(true).write(true).create(true);
         let file = options.open(rt, name).ok()?;
+        if file.try_lock().is_err() {
+            return None;
+        }
         let held_bytes = file.metadata().ok()?.len();
         if held_bytes > MAX_HELD_BYTES || file.as_raw_fd() < FIRST_FREE_DESCRIPTOR {
             return None;

@@ -92,8 +92,8 @@ impl World for RealWorld {
     }
 
     /// The file of that name, made empty where there is none. A folder, a file that may not be read and written, a
-    /// name in a folder that is not there, a file above 2^40 bytes, and any file while a standard stream is closed give
-    /// `Failed`.
+    /// name in a folder that is not there, a file that is open as a log already, here or in another process, a file above
+    /// 2^40 bytes, and any file while a standard stream is closed give `Failed`.
     fn log(&mut self, alloc: Global, name: &str) -> Result<FileLog, Halt> {
         let _ = alloc;
         let Some(log) = FileLog::open(&self.rt, name) else {

@@ -57,3 +57,17 @@ fn a_file_keeps_what_was_appended(rt: HostRuntime) -> Result<(), Fail> {
     fs::remove_file(&rt, name)?;
     Ok(())
 }
+
+#[test]
+fn a_log_is_open_once(rt: HostRuntime) -> Result<(), Fail> {
+    let name = "log_that_is_open";
+    let mut world = RealWorld::new(rt);
+    let mut other = RealWorld::new(rt);
+    let first = world.log(rt.alloc(), name);
+    assert!(rt; first.is_ok());
+    assert!(rt; other.log(rt.alloc(), name).is_err());
+    drop(first);
+    assert!(rt; other.log(rt.alloc(), name).is_ok());
+    fs::remove_file(&rt, name)?;
+    Ok(())
+}
