@@ -56,19 +56,20 @@ fn a_source_that_fails_a_read(rt: HostRuntime) -> Result<(), Fail> {
 #[test]
 fn a_sink_that_fails_a_write(rt: HostRuntime) -> Result<(), Fail> {
     let rows = [
-        (0, 0, 21, 3),
-        (1, 22, 21, 3),
-        (2, 23, 21, 3),
-        (3, 45, 21, 3),
-        (4, 46, 34, 3),
-        (5, 68, 34, 3),
-        (6, 69, 34, 3),
-        (7, 91, 34, 3),
-        (8, 92, 34, 3),
-        (9, 114, 34, 0),
+        (0, 8, 0, 21, 3),
+        (1, 8, 22, 21, 3),
+        (2, 16, 23, 21, 3),
+        (3, 16, 45, 21, 3),
+        (4, 24, 46, 34, 3),
+        (5, 24, 68, 34, 3),
+        (6, 32, 69, 34, 3),
+        (7, 32, 91, 34, 3),
+        (8, 36, 92, 34, 3),
+        (9, 36, 114, 34, 0),
     ];
-    for (write, written, logged, status) in rows {
+    for (write, taken, written, logged, status) in rows {
         let (left, ended, warned) = faulty(rt.alloc(), &[], &[write], &[])?;
+        assert_eq!(rt; left.0, taken, "write {write}");
         assert_eq!(rt; left.1, written, "write {write}");
         assert_eq!(rt; left.2, logged, "write {write}");
         assert_eq!(rt; ended, status, "write {write}");
@@ -84,9 +85,15 @@ fn a_sink_that_fails_a_write(rt: HostRuntime) -> Result<(), Fail> {
 
 #[test]
 fn a_disk_that_fails_an_append(rt: HostRuntime) -> Result<(), Fail> {
-    let rows = [(0, 0, 0, 4), (1, 0, 8, 4), (2, 46, 21, 4), (3, 114, 34, 0)];
-    for (append, written, logged, status) in rows {
+    let rows = [
+        (0, 0, 0, 0, 4),
+        (1, 8, 0, 8, 4),
+        (2, 24, 46, 21, 4),
+        (3, 36, 114, 34, 0),
+    ];
+    for (append, taken, written, logged, status) in rows {
         let (left, ended, warned) = faulty(rt.alloc(), &[], &[], &[append])?;
+        assert_eq!(rt; left.0, taken, "append {append}");
         assert_eq!(rt; left.1, written, "append {append}");
         assert_eq!(rt; left.2, logged, "append {append}");
         assert_eq!(rt; ended, status, "append {append}");
@@ -129,6 +136,7 @@ fn a_sink_that_fails_between_two_replies(rt: HostRuntime) -> Result<(), Fail> {
     };
     let left = run_of(rt.alloc(), &["pipe", "L"], &two)?;
     assert_eq!(rt; left.status, 3);
+    assert_eq!(rt; left.rest, 0);
     assert_eq!(rt;
         left.output.as_slice(),
         b"\x81\x00\x00\x00\x00\x00\x00\x00\x00\x01\x00\x00\x00\x00\x00\x00\x00\x01\x00\x00\x00\x011".as_slice()
