@@ -17,6 +17,9 @@ pub enum Found {
     Whole(Kind, usize, usize),
 }
 
+// How many bytes a value has at most.
+const MAX_VALUE_BYTES: usize = 65_536;
+
 // Why a head is refused.
 #[tactic(auto, using(std::proofs::lemmas::Bool::Decides::nat_tests))]
 fn refusal(kind: u8, key: usize, value: usize) -> Option<u8>
@@ -30,7 +33,7 @@ fn refusal(kind: u8, key: usize, value: usize) -> Option<u8>
     if kind < 3 && key == 0 {
         return Some(2);
     }
-    if kind < 3 && 65536 < value {
+    if kind < 3 && MAX_VALUE_BYTES < value {
         return Some(3);
     }
     if (kind == 2 && 0 < value) || (kind == 3 && 0 < key + value) {

@@ -5,7 +5,7 @@ use Rattle.std.proofs.lemmas.List.{drop-append-le}
 use Rattle.std.proofs.lemmas.Bool.{ne_eqb}
 use Rattle.demi_heap.specs.Seen.{HalfValue}
 use Rattle.demi_memq.specs.Counting.{beside, has, Counts, pushed, popped, waiting}
-use Rattle.demi_memq.specs.Kept.{rest, Inside, Agrees}
+use Rattle.demi_memq.specs.Rooms.{rest, Inside, Agrees}
 use Rattle.demi_memq.proofs.Lists.{self_test, by_test, by_number, beside_same, beside_other, rest_same, rest_other, rest_inside, inside_more, inside_wider, drop_head, drop_none, drop_all}
 
 module _ {X : Type 0} where

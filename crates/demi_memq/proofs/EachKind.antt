@@ -9,7 +9,7 @@ use Rattle.demi_memq.specs.declared.out.MemOut.{MemOut}
 use Rattle.demi_memq.specs.declared.out.MemOut.TheVariants.{Opened, TooMany, Pushed, BadQueue, Closed, QueueFull, Item}
 use Rattle.demi_memq.specs.Said.{array_said, out_said}
 use Rattle.demi_memq.specs.Counting.{beside, has, Counts, pushed, popped, waiting, counted, accept, counts, item_or, gets, answer, answer_unless, result_at, has_room}
-use Rattle.demi_memq.specs.Kept.{rest, Agrees, Kept, Came}
+use Rattle.demi_memq.specs.Rooms.{rest, Agrees, RoomsShow, Came}
 use Rattle.demi_memq.proofs.Lists.{beside_same, drop_head, drop_all, get_none, get_last, got_any}
 use Rattle.demi_memq.proofs.Moves.{after, own_result, pop_grows, pop_result}
 use Rattle.demi_memq.proofs.Agreeing.{waits, a_queue, a_push_wait, a_push_meet, a_pop_item, a_pop_shut, a_pop_wait, open_asks}
@@ -29,14 +29,14 @@ pub two_added : {A : Type 0} (old mid new : List (ℕ × A)) (p k n : ℕ) (x o 
 two_added old mid new p k n x o first is none same = is ∙ ap (λ l. l ++ (k, o) ∷ []) (first ∙ ap (λ l. l ++ (p, x) ∷ []) none) ∙ ap (λ i. (p, x) ∷ (i, o) ∷ []) same
 
 abbrev pub Goes : ℕ → List MemOp → List (ℕ × MemOut) → MemOp → List (ℕ × MemOut) → ℕ → List Bool → Option ℕ → List (ℕ × List HalfValue) → List (ℕ × ℕ) → Type 0
-Goes m h f op added made shut s w n = Kept m (h ++ op ∷ []) (f ++ added) made shut s w n × Came m (h ++ op ∷ []) f added
+Goes m h f op added made shut s w n = RoomsShow m (h ++ op ∷ []) (f ++ added) made shut s w n × Came m (h ++ op ∷ []) f added
 
-module _ (m : ℕ) (h : List MemOp) (f : List (ℕ × MemOut)) (made : ℕ) (shut : List Bool) (s : Option ℕ) (w : List (ℕ × List HalfValue)) (n : List (ℕ × ℕ)) (k : Kept m h f made shut s w n) (calm : s ≡ None) where
+module _ (m : ℕ) (h : List MemOp) (f : List (ℕ × MemOut)) (made : ℕ) (shut : List Bool) (s : Option ℕ) (w : List (ℕ × List HalfValue)) (n : List (ℕ × ℕ)) (k : RoomsShow m h f made shut s w n) (calm : s ≡ None) where
   abbrev t : Counts
   t = counts m h
 
-  kept : Kept m h f made shut None w n
-  kept = subst (λ s. Kept m h f made shut s w n) calm k
+  kept : RoomsShow m h f made shut None w n
+  kept = subst (λ s. RoomsShow m h f made shut s w n) calm k
 
   pub agrees : Agrees (counts m h) made shut w n
   agrees = kept.stands.1
@@ -154,4 +154,4 @@ module _ (m : ℕ) (h : List MemOp) (f : List (ℕ × MemOut)) (made : ℕ) (shu
       let t' : Counts = record (counts m h) { pops = (counts m h).pops ++ (q, length h) ∷ [] } in
       subst (λ l. Goes m h f (Pop q) l made shut s w n') (sym is) (subst (λ l. Goes m h f (Pop q) [] made shut s w l) (sym (more ∙ ap (λ k. n ++ (q, k) ∷ []) at))
       (subst (λ s. Goes m h f (Pop q) [] made shut s w (n ++ (q, length h) ∷ [])) (sym calm)
-      (subst (λ l. Kept m (h ++ Pop q ∷ []) l made shut None w (n ++ (q, length h) ∷ [])) (sym (Rattle.demi_memq.specs.Steady.append_none f)) (mid_ask m q h (Pop q) f t' made shut w n kept.once kept.count kept.pops (is_after (Pop q) t' (pop_accept q true (made_yes q lt))) (none, a_pop_wait q (length h) (counts m h) made shut w n agrees idle open_)), tt)))
+      (subst (λ l. RoomsShow m (h ++ Pop q ∷ []) l made shut None w (n ++ (q, length h) ∷ [])) (sym (Rattle.demi_memq.specs.Steady.append_none f)) (mid_ask m q h (Pop q) f t' made shut w n kept.once kept.count kept.pops (is_after (Pop q) t' (pop_accept q true (made_yes q lt))) (none, a_pop_wait q (length h) (counts m h) made shut w n agrees idle open_)), tt)))

@@ -8,7 +8,7 @@ use Rattle.demi_memq.specs.declared.out.MemOut.{MemOut}
 use Rattle.demi_memq.specs.declared.out.MemOut.TheVariants.{BadQueue, Shut, Closed, Halted}
 use Rattle.demi_memq.specs.Said.{out_said}
 use Rattle.demi_memq.specs.Counting.{beside, has, Counts, pushed, counted, accept, counts, item_or, gets, answer, answer_unless, result_at, stopped_at}
-use Rattle.demi_memq.specs.Kept.{rest, Agrees, Kept, Mid}
+use Rattle.demi_memq.specs.Rooms.{rest, Agrees, RoomsShow, Mid}
 use Rattle.demi_memq.proofs.Lists.{self_test, by_test, get_none}
 use Rattle.demi_memq.proofs.Moves.{after, own_result, pop_grows, pop_result}
 use Rattle.demi_memq.proofs.Agreeing.{a_close}
@@ -33,19 +33,19 @@ pub mid_front : (m q p : ℕ) (h : List MemOp) (op : MemOp) (f added : List (ℕ
 mid_front m q p h op f added n o d is =
     subst (λ l. Mid m h (h ++ op ∷ []) f (added ++ (p, o) ∷ []) l) (ap (λ b. cond b n ((q, p) ∷ rest q n)) (self_test q)) (mid_done m q p (beside q n) h op f added ((q, p) ∷ n) o d (front_is q p n) is)
 
-module _ (m : ℕ) (h : List MemOp) (f : List (ℕ × MemOut)) (made : ℕ) (shut : List Bool) (s : Option ℕ) (w : List (ℕ × List HalfValue)) (n : List (ℕ × ℕ)) (k : Kept m h f made shut s w n) where
+module _ (m : ℕ) (h : List MemOp) (f : List (ℕ × MemOut)) (made : ℕ) (shut : List Bool) (s : Option ℕ) (w : List (ℕ × List HalfValue)) (n : List (ℕ × ℕ)) (k : RoomsShow m h f made shut s w n) where
   -- after a stop
   pub refused : (at : ℕ) (op : MemOp) (added : List (ℕ × MemOut)) → s ≡ Some at → added ≡ (length h, stopped_at at) ∷ [] → Goes m h f op added made shut s w n
   refused at op added ended is =
-      let k' : Kept m h f made shut (Some at) w n = subst (λ s. Kept m h f made shut s w n) ended k in
+      let k' : RoomsShow m h f made shut (Some at) w n = subst (λ s. RoomsShow m h f made shut s w n) ended k in
       let same : counts m (h ++ op ∷ []) ≡ counts m h = after m h op ∙ ap (counted m (length h) op (counts m h)) k'.stands.0 in
       let res : result_at m (h ++ op ∷ []) (length h) ≡ Some (stopped_at at) = own_result m h op ∙ ap (λ s. answer_unless s m op (counts m h) (counts m (h ++ op ∷ []))) k'.stands.0 in
       subst (λ l. Goes m h f op l made shut s w n) (sym is) (subst (λ s. Goes m h f op ((length h, stopped_at at) ∷ []) made shut s w n) (sym ended)
       (mid_last m h op f [] (counts m h) made shut (Some at) w n (stopped_at at) (mid_start m h (h ++ op ∷ []) f made shut (Some at) w n k') k'.pops same k'.stands res))
 
   module _ (calm : s ≡ None) where
-    kept : Kept m h f made shut None w n
-    kept = subst (λ s. Kept m h f made shut s w n) calm k
+    kept : RoomsShow m h f made shut None w n
+    kept = subst (λ s. RoomsShow m h f made shut s w n) calm k
 
     agrees : Agrees (counts m h) made shut w n
     agrees = kept.stands.1

@@ -10,7 +10,7 @@ use Rattle.demi_memq.specs.declared.out.MemOut.{MemOut}
 use Rattle.demi_memq.specs.Said.{is_stop, out_said}
 use Rattle.demi_memq.specs.Counting.{beside, has, Counts, none_yet, pushed, popped, counted, counts_from, counts, item_or, result_at, has_room}
 use Rattle.demi_memq.specs.Steady.{append_none}
-use Rattle.demi_memq.specs.Kept.{rest, on, Once, Pends, IsPop, AllPops, Agrees, Stands, Kept, Came, Mid}
+use Rattle.demi_memq.specs.Rooms.{rest, on, Once, Pends, IsPop, AllPops, Agrees, Stands, RoomsShow, Came, Mid}
 use Rattle.demi_memq.proofs.Lists.{self_test, by_test, by_number, beside_same, beside_other, rest_length, drop_head, get_drop, get_none, get_last, no_outcome, has_none, places_append}
 use Rattle.demi_memq.proofs.Moves.{once_new, once_ask, once_done, once_place, come_more, pop_result, pops_more}
 
@@ -28,7 +28,7 @@ on_in p (d ∷ ds) some =
 one_longer : (h : List MemOp) (op : MemOp) → length h + 1 ≡ length (h ++ op ∷ [])
 one_longer h op = sym (length-append h (op ∷ []))
 
-pub mid_start : (m : ℕ) (h next : List MemOp) (f : List (ℕ × MemOut)) (made : ℕ) (shut : List Bool) (stop : Option ℕ) (w : List (ℕ × List HalfValue)) (n : List (ℕ × ℕ)) → Kept m h f made shut stop w n → Mid m h next f [] n
+pub mid_start : (m : ℕ) (h next : List MemOp) (f : List (ℕ × MemOut)) (made : ℕ) (shut : List Bool) (stop : Option ℕ) (w : List (ℕ × List HalfValue)) (n : List (ℕ × ℕ)) → RoomsShow m h f made shut stop w n → Mid m h next f [] n
 mid_start m h next f made shut stop w n k = record { once = subst (λ l. Once (length h) l n) (sym (append_none f)) k.once; count = let c = k.count in omega arith; came = tt }
 
 come : (m k p : ℕ) (h : List MemOp) (f added : List (ℕ × MemOut)) (o : MemOut) → p < k → Pends p (f ++ added) → result_at m h p ≡ Some (out_said o)
@@ -47,7 +47,7 @@ mid_done m q p r h op f added n o d e is =
     }
 
 -- the operation has its outcome at last
-pub mid_last : (m : ℕ) (h : List MemOp) (op : MemOp) (f added : List (ℕ × MemOut)) (t : Counts) (made : ℕ) (shut : List Bool) (stop : Option ℕ) (w : List (ℕ × List HalfValue)) (n : List (ℕ × ℕ)) (o : MemOut) → Mid m h (h ++ op ∷ []) f added n → AllPops m h → counts m (h ++ op ∷ []) ≡ t → Stands stop t made shut w n → result_at m (h ++ op ∷ []) (length h) ≡ Some (out_said o) → Kept m (h ++ op ∷ []) (f ++ (added ++ (length h, o) ∷ [])) made shut stop w n × Came m (h ++ op ∷ []) f (added ++ (length h, o) ∷ [])
+pub mid_last : (m : ℕ) (h : List MemOp) (op : MemOp) (f added : List (ℕ × MemOut)) (t : Counts) (made : ℕ) (shut : List Bool) (stop : Option ℕ) (w : List (ℕ × List HalfValue)) (n : List (ℕ × ℕ)) (o : MemOut) → Mid m h (h ++ op ∷ []) f added n → AllPops m h → counts m (h ++ op ∷ []) ≡ t → Stands stop t made shut w n → result_at m (h ++ op ∷ []) (length h) ≡ Some (out_said o) → RoomsShow m (h ++ op ∷ []) (f ++ (added ++ (length h, o) ∷ [])) made shut stop w n × Came m (h ++ op ∷ []) f (added ++ (length h, o) ∷ [])
 mid_last m h op f added t made shut stop w n o d pops is stands res =
     let len = one_longer h op in let all = append_assoc f added ((length h, o) ∷ []) in
     let mine : Pends (length h) (f ++ added) = let a = d.once.above (length h) (omega arith) in no_outcome (length h) (f ++ added) (omega arith) in (
@@ -61,7 +61,7 @@ mid_last m h op f added t made shut stop w n o d pops is stands res =
     )
 
 -- the operation waits
-pub mid_ask : (m q : ℕ) (h : List MemOp) (op : MemOp) (f : List (ℕ × MemOut)) (t : Counts) (made : ℕ) (shut : List Bool) (w : List (ℕ × List HalfValue)) (n : List (ℕ × ℕ)) → Once (length h) f n → length h ≡ length f + length n → AllPops m h → counts m (h ++ op ∷ []) ≡ t → Stands None t made shut w (n ++ (q, length h) ∷ []) → Kept m (h ++ op ∷ []) f made shut None w (n ++ (q, length h) ∷ [])
+pub mid_ask : (m q : ℕ) (h : List MemOp) (op : MemOp) (f : List (ℕ × MemOut)) (t : Counts) (made : ℕ) (shut : List Bool) (w : List (ℕ × List HalfValue)) (n : List (ℕ × ℕ)) → Once (length h) f n → length h ≡ length f + length n → AllPops m h → counts m (h ++ op ∷ []) ≡ t → Stands None t made shut w (n ++ (q, length h) ∷ []) → RoomsShow m (h ++ op ∷ []) f made shut None w (n ++ (q, length h) ∷ [])
 mid_ask m q h op f t made shut w n once count pops is stands =
     let len = one_longer h op in
     record {
@@ -85,7 +85,7 @@ waits_on m q i p h f made shut None w n g pops e =
     pop_result m h q (pushed q (counts m h) + i) p a.1 ∙ ap (λ x. item_or x (has q (counts m h).shut) (counts m h).stop) (get_none (beside q (counts m h).pushes) (pushed q (counts m h) + i) (omega arith)) ∙ ap (λ b. item_or None b (counts m h).stop) a.0 ∙ ap (λ s. item_or None false s) g.0
 waits_on m q i p h f made shut (Some s) w n g pops e = let bad : slice_get {X = ℕ} (beside q []) i ≡ Some p = ap (λ l. slice_get (beside q l) i) (sym g.2) ∙ e in absurd (cc)
 
-pub each_pends : (m : ℕ) (h : List MemOp) (f : List (ℕ × MemOut)) (made : ℕ) (shut : List Bool) (stop : Option ℕ) (w : List (ℕ × List HalfValue)) (n : List (ℕ × ℕ)) → Kept m h f made shut stop w n → EachMayPend (λ p. result_at m h p ≡ None) (length h) (places f)
+pub each_pends : (m : ℕ) (h : List MemOp) (f : List (ℕ × MemOut)) (made : ℕ) (shut : List Bool) (stop : Option ℕ) (w : List (ℕ × List HalfValue)) (n : List (ℕ × ℕ)) → RoomsShow m h f made shut stop w n → EachMayPend (λ p. result_at m h p ≡ None) (length h) (places f)
 each_pends m h f made shut stop w n k p lt pends =
     let a = k.once.below p lt in let b = has_none p f pends in let at = on_in p n (omega arith) in waits_on m at.0 at.1 p h f made shut stop w n k.stands k.pops at.2
 
@@ -113,14 +113,14 @@ stop_is : (t : Counts) (made : ℕ) (shut : List Bool) (stop : Option ℕ) (w : 
 stop_is t made shut None w n g = g.0
 stop_is t made shut (Some s) w n g = g.0
 
-pub kept_stop : (m : ℕ) (h : List MemOp) (f : List (ℕ × MemOut)) (made : ℕ) (shut : List Bool) (stop : Option ℕ) (w : List (ℕ × List HalfValue)) (n : List (ℕ × ℕ)) → Kept m h f made shut stop w n → stop ≡ first_stop is_stop 0 h
+pub kept_stop : (m : ℕ) (h : List MemOp) (f : List (ℕ × MemOut)) (made : ℕ) (shut : List Bool) (stop : Option ℕ) (w : List (ℕ × List HalfValue)) (n : List (ℕ × ℕ)) → RoomsShow m h f made shut stop w n → stop ≡ first_stop is_stop 0 h
 kept_stop m h f made shut stop w n k = sym (stop_is (counts m h) made shut stop w n k.stands) ∙ first_is m h
 
-ended : (m p : ℕ) (h : List MemOp) (f : List (ℕ × MemOut)) (made : ℕ) (shut : List Bool) (stop : Option ℕ) (w : List (ℕ × List HalfValue)) (n : List (ℕ × ℕ)) → Kept m h f made shut stop w n → stop ≢ None → p < length h → Pends p f → ⊥
+ended : (m p : ℕ) (h : List MemOp) (f : List (ℕ × MemOut)) (made : ℕ) (shut : List Bool) (stop : Option ℕ) (w : List (ℕ × List HalfValue)) (n : List (ℕ × ℕ)) → RoomsShow m h f made shut stop w n → stop ≢ None → p < length h → Pends p f → ⊥
 ended m p h f made shut None w n k some lt pends = some refl
 ended m p h f made shut (Some s) w n k some lt pends = let a = k.once.below p lt in let b = has_none p f pends in let c : on p n ≡ 0 = ap (on p) k.stands.2 in omega arith
 
-pub none_pends : (m : ℕ) (h : List MemOp) (f : List (ℕ × MemOut)) (made : ℕ) (shut : List Bool) (stop : Option ℕ) (w : List (ℕ × List HalfValue)) (n : List (ℕ × ℕ)) → Kept m h f made shut stop w n → HasStop is_stop h → NonePends (length h) (places f)
+pub none_pends : (m : ℕ) (h : List MemOp) (f : List (ℕ × MemOut)) (made : ℕ) (shut : List Bool) (stop : Option ℕ) (w : List (ℕ × List HalfValue)) (n : List (ℕ × ℕ)) → RoomsShow m h f made shut stop w n → HasStop is_stop h → NonePends (length h) (places f)
 none_pends m h f made shut stop w n k some p lt pends = ended m p h f made shut stop w n k (λ e. some (sym (kept_stop m h f made shut stop w n k) ∙ e)) lt pends
 
 none_beside : (w : List (ℕ × List HalfValue)) → ((q : ℕ) → beside q w ≡ []) → w ≡ []
@@ -128,7 +128,7 @@ none_beside [] f = refl
 none_beside (e ∷ es) f = let a = ap (λ b. cond b (e.1 ∷ beside e.0 es) (beside e.0 es)) (self_test e.0) in let bad : e.1 ∷ beside e.0 es ≡ [] = sym a ∙ f e.0 in absurd (cc)
 
 -- no item waits after a stop, nor where nothing was served
-pub none_waits : (m : ℕ) (h : List MemOp) (f : List (ℕ × MemOut)) (made : ℕ) (shut : List Bool) (stop : Option ℕ) (w : List (ℕ × List HalfValue)) (n : List (ℕ × ℕ)) → Kept m h f made shut stop w n → HasStop is_stop h ⊎ (h ≡ []) → w ≡ []
+pub none_waits : (m : ℕ) (h : List MemOp) (f : List (ℕ × MemOut)) (made : ℕ) (shut : List Bool) (stop : Option ℕ) (w : List (ℕ × List HalfValue)) (n : List (ℕ × ℕ)) → RoomsShow m h f made shut stop w n → HasStop is_stop h ⊎ (h ≡ []) → w ≡ []
 none_waits m h f made shut (Some s) w n k over = k.stands.1
 none_waits m h f made shut None w n k (inl some) = absurd (some (sym (kept_stop m h f made shut None w n k)))
 none_waits m h f made shut None w n k (inr e) = none_beside w (λ q. k.stands.1.items q ∙ ap (λ l. drop (popped q (counts m l)) (beside q (counts m l).pushes)) e)

@@ -6,7 +6,7 @@ use Rattle.std.proofs.lemmas.Bool.{ne_eqb}
 use Rattle.demi_device.specs.Serving.{places}
 use Rattle.demi_memq.specs.Counting.{beside}
 use Rattle.demi_memq.specs.Steady.{beside_append, append_none}
-use Rattle.demi_memq.specs.Kept.{rest, on, Inside, Pends}
+use Rattle.demi_memq.specs.Rooms.{rest, on, Inside, Pends}
 
 pub self_test : (q : ℕ) → (q == q) ≡ true
 self_test q = pick (q == q) refl

@@ -9,7 +9,7 @@ use Rattle.demi_memq.specs.declared.op.MemOp.{MemOp}
 use Rattle.demi_memq.specs.declared.op.MemOp.TheVariants.{Queue, Push, Pop, Close, Stop}
 use Rattle.demi_memq.specs.Counting.{beside, Counts, none_yet, popped, counted, accept, counts, gets, answer_unless, result_at}
 use Rattle.demi_memq.specs.Steady.{append_none, got_append, take_got, from_append, on_cond}
-use Rattle.demi_memq.specs.Kept.{rest, on, Once, Pends, IsPop, AllPops}
+use Rattle.demi_memq.specs.Rooms.{rest, on, Once, Pends, IsPop, AllPops}
 use Rattle.demi_memq.proofs.Lists.{self_test, by_number, beside_same, beside_other, on_more, on_rest, no_outcome, get_last}
 
 abbrev one : ℕ → ℕ → ℕ

@@ -7,7 +7,7 @@ use Rattle.demi_memq.specs.declared.op.MemOp.{MemOp}
 use Rattle.demi_memq.specs.declared.op.MemOp.TheVariants.{Queue, Push, Pop, Close, Stop}
 use Rattle.demi_memq.specs.declared.out.MemOut.{MemOut}
 use Rattle.demi_memq.specs.Counting.{beside}
-use Rattle.demi_memq.specs.Kept.{rest}
+use Rattle.demi_memq.specs.Rooms.{rest}
 use Rattle.demi_memq.specs.Said.{IsFrom, IsProper, array_said, op_said}
 use Rattle.demi_memq.specs.Segments.{brought, given, held, op_segments, out_segments}
 use Rattle.demi_memq.specs.Serving.{Accounts, GivenOf, ItemsOf, items_said}

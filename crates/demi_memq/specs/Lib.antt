@@ -1,7 +1,7 @@
 pub mod Said
 pub mod Counting
 pub mod Steady
-pub mod Kept
+pub mod Rooms
 pub mod Segments
 pub mod Serving
 pub mod Engine

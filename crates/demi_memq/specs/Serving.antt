@@ -10,7 +10,7 @@ use Rattle.demi_memq.specs.Counting.{beside, result_at}
 use Rattle.demi_memq.specs.declared.op.MemOp.{MemOp}
 use Rattle.demi_memq.specs.declared.out.MemOut.{MemOut}
 use Rattle.demi_memq.specs.declared.queues.Queues.{Queues}
-use Rattle.demi_memq.specs.Kept.{Kept, Came}
+use Rattle.demi_memq.specs.Rooms.{RoomsShow, Came}
 
 -- what the arrays say, each beside its queue
 abbrev pub items_said : List (ℕ × List HalfValue) → List (ℕ × List HalfValue)
@@ -19,7 +19,7 @@ items_said (e ∷ es) = (e.0, array_said e.1) ∷ items_said es
 
 -- the rooms are as the history and the outcomes have it
 abbrev pub IsKept : List MemOp → List (ℕ × MemOut) → Queues → Type 0
-IsKept h f s = Kept 1024 h f s.made s.shut.items (option_map (λ p. p.0) s.stop) (items_said s.waiting.items) s.pending.items
+IsKept h f s = RoomsShow 1024 h f s.made s.shut.items (option_map (λ p. p.0) s.stop) (items_said s.waiting.items) s.pending.items
 
 -- they are so once the operation was served, and the outcomes that were added come rightly
 abbrev pub Serves : List MemOp → List (ℕ × MemOut) → MemOp → Queues → List (ℕ × MemOut) → Type 0

@@ -6,7 +6,7 @@ ghost use Rattle.demi_sga.specs.Arrays.{returned_by};
 ghost use Rattle.demi_memq.specs.declared.op.MemOp.TheVariants.{Close as close, Stop as stop};
 ghost use Rattle.demi_memq.specs.declared.out.MemOut.TheVariants.{Stopped as stopped, Closed as closed};
 ghost use Rattle.demi_memq.specs.Counting.{beside};
-ghost use Rattle.demi_memq.specs.Kept.{Mid};
+ghost use Rattle.demi_memq.specs.Rooms.{Mid};
 ghost use Rattle.demi_memq.specs.Said.{IsProper};
 ghost use Rattle.demi_memq.specs.Segments.{given, held, op_segments};
 ghost use Rattle.demi_memq.specs.Serving.{GivenOf, ItemsOf, Owes, OwesAll, SameOthers};

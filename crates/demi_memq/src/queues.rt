@@ -2,7 +2,7 @@
 ghost use Rattle.std.specs.Prelude.{◌≡◌, ◌+◌, ◌<◌, ◌≤◌, [], ◌∷◌, IfNone, IfSome};
 ghost use Rattle.std.specs.VecDeque.{deque_len, deque_capacity};
 ghost use Rattle.demi_memq.specs.Counting.{beside};
-ghost use Rattle.demi_memq.specs.Kept.{rest};
+ghost use Rattle.demi_memq.specs.Rooms.{rest};
 
 use demi_heap::{Heap, HeapPass};
 use demi_port_core::Place;

@@ -1,7 +1,7 @@
 -- The text that a link sends: requests, and how it ends.
 use Rattle.std.specs.Prelude.{◌≡◌, ℕ, suc, zero, ◌+◌, Bool, ◌&&◌, ◌||◌, ◌==◌, nat_lt, if◌then◌else◌, List, [], ◌∷◌, ◌++◌, length, map, take, drop, slice_index, Option, Some, None}
 use Rattle.std.specs.Int.{w32, from_be_bytes}
-use Rattle.demi_spec.specs.Request.{Request, Put, Get, End, IsRequest, spelling}
+use Rattle.demi_spec.specs.Request.{value_max, Request, Put, Get, End, IsRequest, spelling}
 
 -- A text ends by an end request; where its bytes are used up; by bytes that no request spells, with a code from
 -- 1 to 5; or not yet, where more may come.
@@ -18,7 +18,7 @@ abbrev pub code_of_head : ℕ → ℕ → ℕ → Option ℕ
 code_of_head kind key value =
     if kind == 0 || nat_lt 3 kind then Some 1
     else if nat_lt kind 3 && key == 0 then Some 2
-    else if nat_lt kind 3 && nat_lt 65536 value then Some 3
+    else if nat_lt kind 3 && nat_lt value_max value then Some 3
     else if (kind == 2 && nat_lt 0 value) || (kind == 3 && nat_lt 0 (key + value)) then Some 4
     else None
 

@@ -2,6 +2,7 @@
 use Rattle.std.specs.Prelude.{◌≡◌, ℕ, ◌+◌, ◌<◌, ◌≤◌, ◌⊎◌, ◌||◌, ◌==◌, nat_lt, if◌then◌else◌, List, [], ◌∷◌, ◌++◌, length, take, drop, map, flat_map, slice_index, Option, Some, None, Result, Ok, Err}
 use Rattle.std.specs.Int.{w16, w32, to_be_bytes, from_be_bytes}
 use Rattle.std.specs.List.{AllByRecursion}
+use Rattle.demi_spec.specs.Request.{value_max}
 use Rattle.demi_spec.specs.LogText.{entry, log_text, IsPayload, IsBadAt, entries, put_first}
 
 -- links, and the requests of a link, are numbered from 0
@@ -16,7 +17,7 @@ pub record IsRecord (r : Record) : Type 0 where
   pub link : r.link < 65536
   pub index : r.index < 4294967296
   pub key : (0 < length r.key) × (length r.key ≤ 255)
-  pub value : length r.value ≤ 65536
+  pub value : length r.value ≤ value_max
 
 -- the link in two bytes, the index in four, the length of the key in one, the key and the value
 abbrev pub payload : Record → List ℕ
@@ -34,7 +35,7 @@ log_of records = log_text (map payload records)
 unfoldable pub record_of : List ℕ → Option Record
 record_of bytes =
     let key = slice_index bytes 6 in
-    if nat_lt (length bytes) 8 || key == 0 || nat_lt (length bytes) (7 + key) || nat_lt (65536 + (7 + key)) (length bytes) then None
+    if nat_lt (length bytes) 8 || key == 0 || nat_lt (length bytes) (7 + key) || nat_lt (value_max + (7 + key)) (length bytes) then None
     else Some (record {
       link = from_be_bytes w16 (take 2 bytes);
       index = from_be_bytes w32 (take 4 (drop 2 bytes));

@@ -1,6 +1,7 @@
 -- Replies, and the bytes that spell them.
 use Rattle.std.specs.Prelude.{ℕ, ◌≤◌, List, [], ◌∷◌, ◌++◌, length}
 use Rattle.std.specs.Int.{w32, w64, to_be_bytes}
+use Rattle.demi_spec.specs.Request.{value_max}
 
 -- A version is a number of records. A stored put's counts its own record, the others count those that were looked at.
 pub data Answer : Type 0 where
@@ -37,8 +38,8 @@ word_max = 18446744073709551615
 
 -- an answer whose fields are in range
 abbrev pub IsAnswer : Answer → Type 0
-IsAnswer (Stored version value) = (version ≤ word_max) × (length value ≤ 65536)
-IsAnswer (Found version value) = (version ≤ word_max) × (length value ≤ 65536)
+IsAnswer (Stored version value) = (version ≤ word_max) × (length value ≤ value_max)
+IsAnswer (Found version value) = (version ≤ word_max) × (length value ≤ value_max)
 IsAnswer (Missing version) = version ≤ word_max
 IsAnswer (Refused code) = (1 ≤ code) × (code ≤ 5)
 IsAnswer Bye = Unit {0}

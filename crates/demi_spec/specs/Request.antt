@@ -14,8 +14,12 @@ pub data Request : Type 0 where
 abbrev pub IsKey : List ℕ → Type 0
 IsKey key = (0 < length key) × (length key ≤ 255)
 
+-- a value has at most so many bytes
+abbrev pub value_max : ℕ
+value_max = 65536
+
 abbrev pub IsValue : List ℕ → Type 0
-IsValue value = length value ≤ 65536
+IsValue value = length value ≤ value_max
 
 -- a request whose lengths are in range
 abbrev pub IsRequest : Request → Type 0

@@ -10,6 +10,12 @@ use demi_frame::Key;
 use std::alloc::{AllocError, Global};
 use std::marker::Model;
 
+// The most records that a store takes.
+const MAX_RECORDS: u64 = 1_000_000;
+
+// What a log begins with.
+const HEADER: [u8; 8] = *b"DEMILOG1";
+
 /// Why a disk gives no store. It is handed back.
 #[derive(Clone, Copy, Debug, PartialEq, Eq)]
 pub enum PlainRefusal {
@@ -116,7 +122,7 @@ impl<D: Disk> PlainStore<D> {
             Ok(_) => return Err((disk, PlainRefusal::NotEmpty)),
             Err(_) => return Err((disk, PlainRefusal::Failed)),
         }
-        match disk.append(b"DEMILOG1") {
+        match disk.append(&HEADER) {
             Ok(()) => Ok(PlainStore {
                 alloc,
                 disk,
@@ -136,7 +142,7 @@ impl<D: Disk> PlainStore<D> {
         ensures failed { result ≡ PlainPut.Failed → Rose (D.faults self.old.disk) (D.faults self.new.disk) }
     {
         let count = self.entries.len() as u64;
-        if count >= 1_000_000 {
+        if count >= MAX_RECORDS {
             return PlainPut::Full(count);
         }
         let Ok((text, entry)) = prepared(self.alloc, index, key, value) else {

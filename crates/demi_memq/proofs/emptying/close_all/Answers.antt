@@ -2,7 +2,7 @@ use Rattle.std.proofs.Common.{◌+◌, ◌≡◌, ◌++◌, ◌∷◌, [], ap, s
 use Rattle.demi_memq.specs.declared.out.MemOut.TheVariants.{Closed}
 use Rattle.demi_memq.specs.declared.op.MemOp.TheVariants.{Close}
 use Rattle.demi_memq.specs.Counting.{beside}
-use Rattle.demi_memq.specs.Kept.{Mid}
+use Rattle.demi_memq.specs.Rooms.{Mid}
 use Rattle.demi_memq.specs.Serving.{GivenOf}
 use Rattle.demi_memq.proofs.Lists.{rest_other}
 use Rattle.demi_memq.proofs.Keeping.{mid_done}

@@ -1,7 +1,7 @@
 use Rattle.std.proofs.Common.{◌≡◌, ◌+◌, ◌<◌, ◌++◌, [], ◌∷◌, length}
 use Rattle.demi_memq.specs.declared.out.MemOut.TheVariants.{Closed}
 use Rattle.demi_memq.specs.declared.op.MemOp.TheVariants.{Close}
-use Rattle.demi_memq.specs.Kept.{Mid}
+use Rattle.demi_memq.specs.Rooms.{Mid}
 use Rattle.demi_memq.specs.Segments.{given}
 use Rattle.demi_memq.specs.Serving.{Owes, SameOthers}
 use Rattle.demi_heap.specs.Seen.{HeapId}

@@ -2,7 +2,7 @@ use Rattle.std.proofs.Common.{◌+◌, ◌≡◌, ◌++◌, ◌∷◌, [], ap, s
 use Rattle.demi_memq.specs.declared.out.MemOut.TheVariants.{Stopped}
 use Rattle.demi_memq.specs.declared.op.MemOp.TheVariants.{Stop}
 use Rattle.demi_memq.specs.Counting.{result_at}
-use Rattle.demi_memq.specs.Kept.{Mid}
+use Rattle.demi_memq.specs.Rooms.{Mid}
 use Rattle.demi_memq.specs.Serving.{OwesAll}
 use Rattle.demi_memq.specs.Serving.{GivenOf}
 use Rattle.demi_memq.proofs.Ending.{mid_front, front_is, first_at, behind}

@@ -12,7 +12,7 @@ pub returns-then-index-q-clause-rest : goal.returns-then-index-q-clause-rest
 returns-then-index-q-clause-rest g c =
     let s = subst (λ r. Skips c.args.q c.loop-i.i r.items) (sym c.loop-i.invariant.same) c.loop-i.invariant.skips in
     let t = taken_out c.args.q c.loop-i.i c.loop-i.room.items c.remove.new.self.items c.index.result.now (c.in-Some.field-0-0, c.in-Some.item) s (let a = c.loop-i.room.ok.0 in let b = c.loop-i-test.true in let w = c.loop-i.invariant.whole in let e = ap (λ r. r.len) c.loop-i.invariant.same in omega arith) c.index.ensures c.if-index-q.true c.in-Some.ensures.value c.in-Some.ensures.items in
-    t.0 ∙ ap (λ r. Rattle.demi_memq.specs.Kept.rest c.args.q r.items) c.loop-i.invariant.same
+    t.0 ∙ ap (λ r. Rattle.demi_memq.specs.Rooms.rest c.args.q r.items) c.loop-i.invariant.same
 
 pub loop-i-preserved : goal.loop-i-preserved
 loop-i-preserved g c = record {

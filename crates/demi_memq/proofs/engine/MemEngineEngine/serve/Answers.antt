@@ -2,7 +2,7 @@ use Rattle.std.proofs.Common.{◌≡◌, ◌++◌, [], ap, sym, subst, length, S
 use Rattle.demi_device.specs.Serving.{places}
 use Rattle.demi_memq.specs.Counting.{result_at}
 use Rattle.demi_memq.specs.Engine.{GoesTo, MemValue}
-use Rattle.demi_memq.specs.Kept.{Came}
+use Rattle.demi_memq.specs.Rooms.{Came}
 use Rattle.demi_memq.specs.Said.{IsFrom, out_said}
 use Rattle.demi_memq.specs.Serving.{IsKept, items_said}
 use Rattle.demi_memq.proofs.Going.{serve_goes, waits_rightly}

@@ -17,7 +17,7 @@ returns-in-Ok-append-clause-put g c =
     let pushed : c.push.new.self.items ≡ c.reserve.new.self.items ++ c.in-Ok.entry ∷ [] = rw fine at c.push.ensures.items in
     let more = pushed ∙ ap (λ l. l ++ c.in-Ok.entry ∷ []) c.reserve.ensures.items in
     let count : c.len-count.result ≡ length items = search rules in
-    let less : length items < 1000000 = omega (arith, c.if-count-ge1000000.false) in
+    let less : length items < 1000000 = omega (arith, c.if-count-ge-MAX_RECORDS.false) in
     let text = c.deref.ensures.value ∙ c.in-Ok.ensures.text in
     let written = is_grown (bytes d.disk) (bytes c.append.new.self) (held d.disk) (held c.append.new.self) _
     (c.in-Ok-append.ensures.bytes ∙ ap (append_known (bytes d.disk)) text) (c.in-Ok-append.ensures.held ∙ ap (λ (t : List ℕ). held d.disk + length t) text) in
@@ -30,7 +30,7 @@ returns-clause-put g c =
     let d = c.self.inside in
     let items = d.entries.items in
     let count : c.len-count.result ≡ length items = search rules in
-    let less : length items < 1000000 = omega (arith, c.if-count-ge1000000.false) in
+    let less : length items < 1000000 = omega (arith, c.if-count-ge-MAX_RECORDS.false) in
     let text = c.deref.ensures.value ∙ c.in-Ok.ensures.text in
     let front = subst (λ (t : List ℕ). GrowsByFront (bytes d.disk) (bytes c.append.new.self) (held d.disk) (held c.append.new.self) t) text c.in-Err.ensures.failed in
     rw (← c.self.view_is, c.reserve.ensures.items) (search rules, failed_entry items _ _ _ _ c.args.index c.args.key.now.items c.args.value.now less front)

@@ -57,7 +57,7 @@ abbrev pub Stands : Option ℕ → Counts → ℕ → List Bool → List (ℕ ×
 Stands None t made shut w n = (t.stop ≡ None) × Agrees t made shut w n
 Stands (Some s) t made shut w n = (t.stop ≡ Some s) × (w ≡ []) × (n ≡ [])
 
-pub record Kept (m : ℕ) (h : List MemOp) (f : List (ℕ × MemOut)) (made : ℕ) (shut : List Bool) (stop : Option ℕ) (w : List (ℕ × List HalfValue)) (n : List (ℕ × ℕ)) : Type 0 where
+pub record RoomsShow (m : ℕ) (h : List MemOp) (f : List (ℕ × MemOut)) (made : ℕ) (shut : List Bool) (stop : Option ℕ) (w : List (ℕ × List HalfValue)) (n : List (ℕ × ℕ)) : Type 0 where
   pub stands : Stands stop (counts m h) made shut w n
   pub pops : AllPops m h
   pub once : Once (length h) f n
