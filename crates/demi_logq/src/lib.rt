@@ -7,17 +7,27 @@
 #![tactic(auto)]
 
 mod ahead;
+mod base;
 mod find;
+mod law;
 mod log;
+mod op;
 mod opening;
+mod out;
 mod reading;
 mod refusal;
 mod sizes;
 mod staging;
 #[cfg(test)]
 mod tests;
+mod told;
 
 pub use ahead::Ahead;
+pub use base::LogBase;
+pub use law::LogLaw;
 pub use log::Log;
+pub use op::LogOp;
+pub use out::LogOut;
 pub use refusal::LogRefusal;
 pub use sizes::MAX_PAYLOAD_BYTES;
+pub use told::LogTold;
