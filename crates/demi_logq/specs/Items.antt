@@ -6,8 +6,8 @@ use Rattle.demi_heap.specs.Rule.{first_of, end_of}
 use Rattle.demi_heap.specs.Seen.{HeapId, HalfValue, PassValue, SawOwned}
 use Rattle.demi_logq.specs.Logged.{Logged, Holds}
 use Rattle.demi_logq.specs.Answers.{IsItem}
-use Rattle.demi_logq.specs.declared.out.LogOut.{LogOut}
-use Rattle.demi_logq.specs.declared.out.LogOut.TheVariants.{Item, NoSlot, Fault}
+use Rattle.demi_logq.specs.declared.item.Taken.{Taken}
+use Rattle.demi_logq.specs.declared.item.Taken.TheVariants.{Item, NoSlot, Fault}
 
 -- The pass, from v to w: so many device halves came and were ended, and so many slots were claimed and given. Each other slot that
 -- was claimed was freed. It lent none.
@@ -29,8 +29,7 @@ tells None = false
 tells (Some bytes) = true
 
 -- what came of reading the entry i, by its outcome
-abbrev pub Took : {D : Type 0} → (D → Option (List ℕ)) → (D → ℕ) → HeapId → ℕ → Logged D → Logged D → PassValue → PassValue → LogOut → Type 0
+abbrev pub Took : {D : Type 0} → (D → Option (List ℕ)) → (D → ℕ) → HeapId → ℕ → Logged D → Logged D → PassValue → PassValue → Taken → Type 0
 Took bytes faults heap i a b v w (Item sga) = Accounts v w 0 (length sga) × ((payloads : List (List ℕ)) → Holds (bytes a.disk) a.ends payloads → IsItem (tells (bytes a.disk)) heap (get_or payloads i []) sga)
 Took bytes faults heap i a b v w NoSlot = Accounts v w 0 0 × FoundNone v w × (b ≡ a)
 Took bytes faults heap i a b v w Fault = Accounts v w 0 0 × Rose (faults a.disk) (faults b.disk)
-Took bytes faults heap i a b v w other = ⊥

@@ -7,13 +7,18 @@
 #![tactic(auto)]
 
 mod ahead;
+mod appending;
 mod base;
+mod engine;
 mod find;
+mod item;
 mod law;
 mod log;
+mod marks;
 mod op;
 mod opening;
 mod out;
+mod queue;
 mod reading;
 mod refusal;
 mod sizes;
@@ -24,6 +29,7 @@ mod told;
 
 pub use ahead::Ahead;
 pub use base::LogBase;
+pub use engine::LogEngine;
 pub use law::LogLaw;
 pub use log::Log;
 pub use op::LogOp;
