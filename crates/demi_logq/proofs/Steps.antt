@@ -8,9 +8,12 @@ use Rattle.demi_port_core.specs.Trails.{MayTell, told_at}
 use Rattle.demi_device.specs.Serving.{AllCome, EachMayPend, NonePends, above, places, trail}
 use Rattle.demi_logq.specs.declared.op.LogOp.{LogOp}
 use Rattle.demi_logq.specs.declared.out.LogOut.{LogOut}
+use Rattle.demi_logq.specs.declared.out.LogOut.TheVariants.{Appended, BadSize, LogFull, Item, AtEnd, Sought, Cut, BadIndex, NoSlot, Fault, Broken, Stopped, Halted}
+use Rattle.demi_heap.specs.Seen.{HeapId}
+use Rattle.std.specs.Prelude.{Bool}
 use Rattle.demi_logq.specs.declared.told.LogTold.{LogTold}
-use Rattle.demi_logq.specs.Folding.{Answer, Standing, said_at, standing, standing_from, opened, log_result}
-use Rattle.demi_logq.specs.Answers.{LogBasis, Admits, Is, said_to, struck_at, told_by}
+use Rattle.demi_logq.specs.Folding.{Answer, Just, Entry, Standing, said_at, standing, standing_from, opened, log_result}
+use Rattle.demi_logq.specs.Answers.{LogBasis, Admits, Is, IsFrom, said_to, struck_at, told_by}
 use Rattle.demi_logq.specs.Steady.{standing_same}
 use Rattle.demi_logq.specs.Engine.{InOrder, stood}
 use Rattle.demi_logq.proofs.Saying.{other_is, same_is}
@@ -79,6 +82,22 @@ got_last (x ∷ h) op = got_last h op
 take_last : (h more : List LogOp) → take (length h) (h ++ more) ≡ h
 take_last h more = take-append-le (length h) h more (omega arith) ∙ take_all (length h) h (omega arith)
 
+is_from : (told : Bool) (heap : HeapId) (a : Answer) (o : LogOut) → Is told heap a o → IsFrom heap o
+is_from told heap (Just x) (Item sga) is = absurd is
+is_from told heap (Entry payload) (Item sga) is = is.of_heap
+is_from told heap a (Appended n) is = tt
+is_from told heap a BadSize is = tt
+is_from told heap a LogFull is = tt
+is_from told heap a AtEnd is = tt
+is_from told heap a Sought is = tt
+is_from told heap a Cut is = tt
+is_from told heap a BadIndex is = tt
+is_from told heap a NoSlot is = tt
+is_from told heap a Fault is = tt
+is_from told heap a (Broken p) is = tt
+is_from told heap a (Stopped p) is = tt
+is_from told heap a Halted is = tt
+
 module _ (b : LogBasis) (h : List LogOp) (f : List (ℕ × LogOut)) (order : InOrder 0 f) (count : length f ≡ length h) (op : LogOp) (o : LogOut) where
   -- what stands behind the operations of which the outcomes tell no more
   same_stands : standing b.limit b.payloads (struck_at (trail told_by f ++ told_at (length h) (told_by o))) h ≡ stood b h f
@@ -106,7 +125,7 @@ module _ (b : LogBasis) (h : List LogOp) (f : List (ℕ × LogOut)) (order : InO
       served = omega arith;
       open_yet = places_other 0 (length h) f order (omega arith);
       may_tell = may_tell (above (places f)) (length h) (told_by o) (above_is 0 (length h) f order (omega arith));
-      admitted = (op, got_last h op, subst (λ (a : Answer). Is b.told b.heap a o) (sym said_here) is);
+      admitted = (op, got_last h op, subst (λ (a : Answer). Is b.told b.heap a o) (sym said_here) is, is_from b.told b.heap (said_at b.limit (length h) op (told_by o) (stood b h f)).0 o is);
     },
     tt,
   )

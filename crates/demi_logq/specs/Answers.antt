@@ -68,13 +68,19 @@ pub record IsItem (told : Bool) (heap : HeapId) (payload : List ℕ) (sga : List
 
 -- the outcome is what was said
 abbrev pub Is : Bool → HeapId → Answer → LogOut → Type 0
+Is told heap (Just x) (Item sga) = ⊥
 Is told heap (Just x) o = o ≡ x
 Is told heap (Entry payload) (Item sga) = IsItem told heap payload sga
 Is told heap (Entry payload) other = ⊥
+
+-- the array of an outcome is of this heap
+abbrev pub IsFrom : HeapId → LogOut → Type 0
+IsFrom heap (Item sga) = AreOf heap sga
+IsFrom heap other = Unit {0}
 
 -- what is said to an operation at its place, on the operations below it and what was told up to it
 abbrev pub said_to : LogBasis → List LogOp → List (ℕ × LogTold) → ℕ → LogOp → Answer
 said_to b h t p op = log_result b.limit b.payloads (struck_at t) h p op
 
 abbrev pub Admits : LogBasis → List LogOp → List (ℕ × LogTold) → ℕ → LogOut → Type 0
-Admits b h t p o = (op : LogOp) × (slice_get h p ≡ Some op) × Is b.told b.heap (said_to b h t p op) o
+Admits b h t p o = (op : LogOp) × (slice_get h p ≡ Some op) × Is b.told b.heap (said_to b h t p op) o × IsFrom b.heap o

@@ -58,6 +58,6 @@ pub admits_steady : (b : LogBasis) (h more : List LogOp) (t later : List (ℕ ×
 admits_steady b h more t later p o x is above =
     let less = within h p is.0 is.1 in
     let front = got_front h more p less in (
-      (λ e. (e.0, sym front ∙ e.1, subst (λ s. Is b.told b.heap s x) (same_said b h more t later p e.0 less above) e.2)),
-      (λ e. (e.0, front ∙ e.1, subst (λ s. Is b.told b.heap s x) (sym (same_said b h more t later p e.0 less above)) e.2)),
+      (λ e. (e.0, sym front ∙ e.1, subst (λ s. Is b.told b.heap s x) (same_said b h more t later p e.0 less above) e.2, e.3)),
+      (λ e. (e.0, front ∙ e.1, subst (λ s. Is b.told b.heap s x) (sym (same_said b h more t later p e.0 less above)) e.2, e.3)),
     )
