@@ -62,6 +62,7 @@ impl<'h, D: Disk> LogEngine<'h, D> {
     pub fn parts(self) -> (Log<D>, HeapPass)
         ensures log { result.0 ≡ self.entry.log }
         ensures pass { result.1 ≡ self.entry.pass }
+        ensures heap { result.1.heap ≡ self.entry.base.heap }
     {
         let LogEngine { queue, past: _ } = self;
         let Queue {
