@@ -1,5 +1,5 @@
 -- What a commit and a cut of a log do.
-use Rattle.std.specs.Prelude.{◌≡◌, ℕ, ◌+◌, ◌-◌, ◌<◌, ◌≤◌, ◌⊎◌, Bool, true, false, List, [], ◌∷◌, ◌++◌, length, take, Option, Some, None, Result, Ok, Err}
+use Rattle.std.specs.Prelude.{◌≡◌, ℕ, ◌+◌, ◌-◌, ◌<◌, ◌≤◌, ◌⊎◌, Bool, true, false, List, [], ◌∷◌, ◌++◌, length, take, Option, Some, None, option_map, Result, Ok, Err}
 use Rattle.std.specs.Io.KnownBytes.{append_known}
 use Rattle.demi_core.specs.Outside.{Rose, GrowsByFront}
 use Rattle.demi_spec.specs.LogText.{entry}
@@ -44,6 +44,7 @@ pub record Cut {D : Type 0} (bytes : D → Option (List ℕ)) (cuts : D → ℕ 
   pub sound : IsSound old
   pub now : new ≡ record old { disk = new.disk; ends = take n old.ends }
   pub holds : (payloads : List (List ℕ)) → Holds (bytes old.disk) old.ends payloads → Holds (bytes new.disk) new.ends (take n payloads)
+  pub bytes_are : bytes new.disk ≡ option_map (take (place_of old.ends n)) (bytes old.disk)
   pub call : cuts old.disk (place_of old.ends n) true new.disk
 
 pub record Lost {D : Type 0} (faults : D → ℕ) (cuts : D → ℕ → Bool → D → Type 0) (old new : Logged D) (n : ℕ) : Type 0 where
