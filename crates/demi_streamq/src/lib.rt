@@ -1,0 +1,25 @@
+//! Queues over sources and sinks: what is read from a link comes by place as pieces.
+//!
+//! `RxOp` and `RxOut` are the operations on a receiving port and what they come to, and `RxLaw` is its law. A pop reads its
+//! source once, into a page of the heap, and no byte is copied above the source.
+//! The layer above may rely on this: the pieces by place, joined, are the bytes that the source gave; an end, a fault and a
+//! missing slot are told only with their cause; and after them, as after a stop, the source is not read.
+//! Not promised: how many bytes a piece has, but that it has one and no more than were asked.
+#![tactic(auto)]
+
+mod base;
+mod heard;
+mod rx_answering;
+mod rx_engine;
+mod rx_law;
+mod rx_op;
+mod rx_out;
+mod rx_reading;
+mod rx_told;
+
+pub use base::StreamBase;
+pub use rx_engine::RxEngine;
+pub use rx_law::RxLaw;
+pub use rx_op::RxOp;
+pub use rx_out::RxOut;
+pub use rx_told::RxTold;
