@@ -117,8 +117,18 @@ module _ {S : Type 0} (taken : S → ℕ) (left : S → Option (List ℕ)) (faul
   pub rx_goes_self : (e : RxValue S) → RxGoes taken left faults reads e e
   rx_goes_self e =
       record {
-        more = []; added = []; served = sym (append_none e.served); finished = sym (append_none e.finished); taken_is = omega arith; left_is = known_none (left e.source); later = omega arith;
-        rose = λ f. absurd f; ended = λ f. absurd f; run = (refl, refl); pass = refl; numbers = omega arith;
+        more = [];
+        added = [];
+        served = sym (append_none e.served);
+        finished = sym (append_none e.finished);
+        taken_is = omega arith;
+        left_is = known_none (left e.source);
+        later = omega arith;
+        rose = λ f. absurd f;
+        ended = λ f. absurd f;
+        run = (refl, refl);
+        pass = refl;
+        numbers = omega arith;
       }
 
   pub rx_goes_on : (a b c : RxValue S) → RxGoes taken left faults reads a b → RxGoes taken left faults reads b c → RxGoes taken left faults reads a c

@@ -16,6 +16,8 @@ mod rx_op;
 mod rx_out;
 mod rx_reading;
 mod rx_told;
+#[cfg(test)]
+mod tests;
 
 pub use base::StreamBase;
 pub use rx_engine::RxEngine;

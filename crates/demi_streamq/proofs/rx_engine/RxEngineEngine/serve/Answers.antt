@@ -14,12 +14,13 @@ fin : (g : Rattle.demi_streamq.proofs.rx_engine.RxEngineEngine.serve.Given.Over)
 fin g c = c.finished.ensures ∙ ap (λ l. c.self.inside.outcomes.value ++ l) (added g c)
 
 pub invariant_of-self : goal.invariant_of-self
-invariant_of-self g c =
-    (subst (λ h. IsKept h c.finished.result.value c.answer-out.new.self) (sym c.heard-history.ensures) (subst (λ f. IsKept (c.self.inside.history.value ++ c.args.op ∷ []) f c.answer-out.new.self) (sym (fin g c)) c.answer-out.ensures.kept),
-     ap (λ v. v.heap) c.answer-out.ensures.pass ∙ c.self.invariant.1,
-     c.answer-out.ensures.within,
-     c.answer-out.ensures.none_left,
-     c.answer-out.ensures.ended ∙ ap (λ b. ended_after b c.answer-out.result) c.self.invariant.4 ∙ sym (ap (ended_in false) (fin g c) ∙ ended_append false c.self.inside.outcomes.value ((c.args.place.0, c.answer-out.result) ∷ [])))
+invariant_of-self g c = (
+  subst (λ h. IsKept h c.finished.result.value c.answer-out.new.self) (sym c.heard-history.ensures) (subst (λ f. IsKept (c.self.inside.history.value ++ c.args.op ∷ []) f c.answer-out.new.self) (sym (fin g c)) c.answer-out.ensures.kept),
+  ap (λ v. v.heap) c.answer-out.ensures.pass ∙ c.self.invariant.1,
+  c.answer-out.ensures.within,
+  c.answer-out.ensures.none_left,
+  c.answer-out.ensures.ended ∙ ap (λ b. ended_after b c.answer-out.result) c.self.invariant.4 ∙ sym (ap (ended_in false) (fin g c) ∙ ended_append false c.self.inside.outcomes.value ((c.args.place.0, c.answer-out.result) ∷ [])),
+)
 
 pub returns-clause-comes : goal.returns-clause-comes
 returns-clause-comes g c =
