@@ -16,43 +16,8 @@ use Rattle.demi_streamq.specs.declared.rx_told.RxTold.TheVariants.{Bytes, AtEnd,
 use Rattle.demi_streamq.specs.Receiving.{IsFrom, is_stop, told, at, over, over_by, told_at, bytes_in, bytes_before, IsRead, RxAnswer, RxAdmits}
 use Rattle.demi_heap.specs.Seen.{HeapId}
 use Rattle.demi_streamq.specs.RxSteady.{append_none}
+use Rattle.demi_streamq.proofs.Orders.{or, low, not_low, same, differs, Lows, lows_of, trail_more, told_past, told_here, or_none, stop_append, order_more, get_last, fresh, none_above, may_tell}
 use Rattle.demi_streamq.specs.RxKept.{InOrder, over_of, RxKept}
-
-pub or : {A : Type 0} → Option A → Option A → Option A
-or (Some a) b = Some a
-or None b = b
-
-pub low : (a p : ℕ) → a < p → ltb a p ≡ true
-low a p lt = grind (arith, nat_tests)
-
-pub not_low : (p : ℕ) → ltb p p ≡ false
-not_low p = grind (arith, nat_tests)
-
-pub same : (p : ℕ) → (p == p) ≡ true
-same p = grind (arith, nat_tests)
-
-pub differs : (a p : ℕ) → a < p → (a == p) ≡ false
-differs a p lt = grind (arith, nat_tests)
-
-abbrev pub Lows : ℕ → List (ℕ × RxTold) → Type 0
-Lows p [] = Unit {0}
-Lows p (e ∷ es) = (e.0 < p) × Lows p es
-
-lows_append : (p : ℕ) (a b : List (ℕ × RxTold)) → Lows p a → Lows p b → Lows p (a ++ b)
-lows_append p [] b x y = y
-lows_append p (e ∷ es) b x y = (x.0, lows_append p es b x.1 y)
-
-lows_telling : (p k : ℕ) (t : Option RxTold) → k < p → Lows p (telling k t)
-lows_telling p k None lt = tt
-lows_telling p k (Some t) lt = (lt, tt)
-
-pub lows_of : (p k : ℕ) (f : List (ℕ × RxOut)) → InOrder k f → k + length f ≤ p → Lows p (trail told f)
-lows_of p k [] i le = tt
-lows_of p k (o ∷ os) i le = lows_append p (telling o.0 (told o.1)) (trail told os) (lows_telling p o.0 (told o.1) (let e = i.0 in omega arith)) (lows_of p (k + 1) os i.1 (omega arith))
-
-pub trail_more : (f : List (ℕ × RxOut)) (n : ℕ) (o : RxOut) → trail told (f ++ (n, o) ∷ []) ≡ trail told f ++ telling n (told o)
-trail_more [] n o = append_none (telling n (told o))
-trail_more (x ∷ xs) n o = ap (λ l. telling x.0 (told x.1) ++ l) (trail_more xs n o) ∙ sym (append_assoc (telling x.0 (told x.1)) (trail told xs) (telling n (told o)))
 
 by_or : (e : RxTold) (k : ℕ) (a b : Option RxOut) → over_by e k (or a b) ≡ or (over_by e k a) b
 unfolding or
@@ -82,14 +47,6 @@ pub bytes_next : (p : ℕ) (t : List (ℕ × RxTold)) → Lows p t → bytes_bef
 bytes_next p [] l = refl
 bytes_next p (e ∷ es) l = let lt = l.0 in ap (λ b. cond b (bytes_in e.1) [] ++ bytes_before (p + 1) es) (low e.0 (p + 1) (omega arith)) ∙ ap (λ m. bytes_in e.1 ++ m) (bytes_next p es l.1) ∙ sym (ap (λ b. cond b (bytes_in e.1) [] ++ bytes_before p es) (low e.0 p lt))
 
-pub told_past : (p : ℕ) (t more : List (ℕ × RxTold)) → Lows p t → told_at p (t ++ more) ≡ told_at p more
-told_past p [] more l = refl
-told_past p (e ∷ es) more l = ap (λ b. cond b (Some e.1) (told_at p (es ++ more))) (differs e.0 p l.0) ∙ told_past p es more l.1
-
-pub told_here : (p : ℕ) (t : Option RxTold) → told_at p (telling p t) ≡ t
-told_here p None = refl
-told_here p (Some t) = ap (λ b. cond b (Some t) None) (same p)
-
 pub over_here : (p : ℕ) (t : Option RxTold) → over p (telling p t) ≡ None
 over_here p None = refl
 over_here p (Some t) = ap (λ b. cond b (over_by t p None) None) (not_low p)
@@ -98,39 +55,17 @@ pub bytes_here : (p : ℕ) (t : Option RxTold) → bytes_before p (telling p t) 
 bytes_here p None = refl
 bytes_here p (Some t) = ap (λ b. cond b (bytes_in t) [] ++ []) (not_low p)
 
-or_none : (a : Option RxOut) → or a None ≡ a
-unfolding or
-or_none None = refl
-or_none (Some a) = refl
-
-stop_append : (p n : ℕ) (h : List RxOp) (op : RxOp) → p + length h ≡ n → first_stop is_stop p (h ++ op ∷ []) ≡ or (first_stop is_stop p h) (first_stop is_stop n (op ∷ []))
-unfolding or
-stop_append p n [] op e = let same : p ≡ n = omega arith in ap (λ k. first_stop is_stop k (op ∷ [])) same
-stop_append p n (d ∷ ds) op e = pick (is_stop d) (stop_append (p + 1) n ds op (omega arith))
-  where
-    pick : (c : Bool) → first_stop is_stop (p + 1) (ds ++ op ∷ []) ≡ or (first_stop is_stop (p + 1) ds) (first_stop is_stop n (op ∷ [])) → cond c (Some p) (first_stop is_stop (p + 1) (ds ++ op ∷ [])) ≡ or (cond c (Some p) (first_stop is_stop (p + 1) ds)) (first_stop is_stop n (op ∷ []))
-    pick true h = refl
-    pick false h = h
-
-order_more : (k n : ℕ) (f : List (ℕ × RxOut)) (o : RxOut) → InOrder k f → k + length f ≡ n → InOrder k (f ++ (n, o) ∷ [])
-order_more k n [] o i e = (omega arith, tt)
-order_more k n (x ∷ xs) o i e = (i.0, order_more (k + 1) n xs o i.1 (omega arith))
-
-get_last : {X : Type 0} (l : List X) (x : X) → slice_get (l ++ x ∷ []) (length l) ≡ Some x
-get_last [] x = refl
-get_last (y ∷ ys) x = get_last ys x
-
 module _ (h : List RxOp) (f : List (ℕ × RxOut)) (at_end : Bool) (broken : Option Place) (stop : Option ℕ) (taken : ℕ) (k : RxKept h f at_end broken stop taken) where
   lows : Lows (length h) (trail told f)
-  lows = lows_of (length h) 0 f k.order (let c = k.count in omega arith)
+  lows = lows_of told (length h) 0 f k.order (let c = k.count in omega arith)
 
   -- the outcome o is admitted, where the state says so
   pub rx_admits : (op : RxOp) (o : RxOut) → RxAnswer stop (Some op) (over_of at_end broken) (told o) taken o → RxAdmits (h ++ op ∷ []) (trail told (f ++ (length h, o) ∷ [])) (length h) o
   rx_admits op o is =
       let n = length h in let t = trail told f in
-      let e1 : over n (trail told (f ++ (n, o) ∷ [])) ≡ over_of at_end broken = ap (over n) (trail_more f n o) ∙ over_append n t (telling n (told o)) ∙ ap (or (over n t)) (over_here n (told o)) ∙ or_none (over n t) ∙ k.found in
-      let e2 : told_at n (trail told (f ++ (n, o) ∷ [])) ≡ told o = ap (told_at n) (trail_more f n o) ∙ told_past n t (telling n (told o)) lows ∙ told_here n (told o) in
-      let e3 : length (bytes_before n (trail told (f ++ (n, o) ∷ []))) ≡ taken = ap (λ l. length (bytes_before n l)) (trail_more f n o) ∙ ap length (bytes_append n t (telling n (told o)) ∙ ap (λ l. bytes_before n t ++ l) (bytes_here n (told o)) ∙ append_none (bytes_before n t)) ∙ sym k.taken_is in
+      let e1 : over n (trail told (f ++ (n, o) ∷ [])) ≡ over_of at_end broken = ap (over n) (trail_more told f n o) ∙ over_append n t (telling n (told o)) ∙ ap (or (over n t)) (over_here n (told o)) ∙ or_none (over n t) ∙ k.found in
+      let e2 : told_at n (trail told (f ++ (n, o) ∷ [])) ≡ told o = ap (told_at n) (trail_more told f n o) ∙ told_past n t (telling n (told o)) lows ∙ told_here n (told o) in
+      let e3 : length (bytes_before n (trail told (f ++ (n, o) ∷ []))) ≡ taken = ap (λ l. length (bytes_before n l)) (trail_more told f n o) ∙ ap length (bytes_append n t (telling n (told o)) ∙ ap (λ l. bytes_before n t ++ l) (bytes_here n (told o)) ∙ append_none (bytes_before n t)) ∙ sym k.taken_is in
       let e4 : first_stop is_stop 0 (take n (h ++ op ∷ [])) ≡ stop = ap (first_stop is_stop 0) (take-append_seam h (op ∷ [])) ∙ sym k.stop_is in
       let e5 : slice_get (h ++ op ∷ []) n ≡ Some op = get_last h op in
       rw (e1, e2, e3, e4, e5) is
@@ -142,10 +77,10 @@ module _ (h : List RxOp) (f : List (ℕ × RxOut)) (at_end : Bool) (broken : Opt
       record {
         order = order_more 0 n f o k.order (let c = k.count in omega arith);
         count = let a = length-append f ((n, o) ∷ []) in let c = k.count in omega arith;
-        found = ap (λ i. over i (trail told (f ++ (n, o) ∷ []))) len ∙ ap (over (n + 1)) (trail_more f n o) ∙ over_append (n + 1) t (telling n (told o)) ∙ ap (λ a. or a (over (n + 1) (telling n (told o)))) (over_next n t lows ∙ k.found) ∙ eo;
-        stop_is = es ∙ ap (λ s. or s (first_stop is_stop n (op ∷ []))) k.stop_is ∙ sym (stop_append 0 n h op (omega arith));
+        found = ap (λ i. over i (trail told (f ++ (n, o) ∷ []))) len ∙ ap (over (n + 1)) (trail_more told f n o) ∙ over_append (n + 1) t (telling n (told o)) ∙ ap (λ a. or a (over (n + 1) (telling n (told o)))) (over_next n t lows ∙ k.found) ∙ eo;
+        stop_is = es ∙ ap (λ s. or s (first_stop is_stop n (op ∷ []))) k.stop_is ∙ sym (stop_append is_stop 0 n h op (omega arith));
         taken_is =
-            let a = ap length (ap (λ i. bytes_before i (trail told (f ++ (n, o) ∷ []))) len ∙ ap (bytes_before (n + 1)) (trail_more f n o) ∙ bytes_append (n + 1) t (telling n (told o)) ∙ ap (λ l. l ++ bytes_before (n + 1) (telling n (told o))) (bytes_next n t lows)) in
+            let a = ap length (ap (λ i. bytes_before i (trail told (f ++ (n, o) ∷ []))) len ∙ ap (bytes_before (n + 1)) (trail_more told f n o) ∙ bytes_append (n + 1) t (telling n (told o)) ∙ ap (λ l. l ++ bytes_before (n + 1) (telling n (told o))) (bytes_next n t lows)) in
             let b = length-append (bytes_before n t) (bytes_before (n + 1) (telling n (told o))) in let c = k.taken_is in omega arith;
       }
 
@@ -223,25 +158,13 @@ module _ (h : List RxOp) (f : List (ℕ × RxOut)) (at_end : Bool) (broken : Opt
   pub rx_piece : (op : RxOp) (max : ℕ) (bs : List ℕ) (o : RxOut) (taken' : ℕ) → stop ≡ None → op ≡ Pop max → at_end ≡ false → broken ≡ None → told o ≡ Some (Bytes bs) → IsRead max taken o → taken' ≡ taken + length bs → Both h f op p o at_end broken stop taken'
   rx_piece op max bs o taken' e is open_ whole tells got et = read op max (Bytes bs) o at_end broken taken' e is open_ whole tells got (sym (ap (λ b. over_of b broken) open_ ∙ ap (over_of false) whole)) et
 
-fresh : (n i : ℕ) (f : List (ℕ × RxOut)) → InOrder i f → i + length f ≤ n → Each (λ p. p ≢ n) (places f)
-fresh n i [] o le = tt
-fresh n i (x ∷ xs) o le = (λ e. let a = o.0 in omega arith, fresh n (i + 1) xs o.1 (omega arith))
-
-none_above : (n i : ℕ) (f : List (ℕ × RxOut)) → InOrder i f → i + length f ≤ n → above (places f) ≤ n
-none_above n i [] o le = omega arith
-none_above n i (x ∷ xs) o le = let b = none_above n (i + 1) xs o.1 (omega arith) in let a = o.0 in omega arith
-
-may_tell : (floor p : ℕ) (t : Option RxTold) → floor ≤ p → MayTell floor p t
-may_tell floor p None le = tt
-may_tell floor p (Some t) le = le
-
 -- the outcome of one operation comes rightly
 pub rx_comes : (heap : HeapId) (h : List RxOp) (f : List (ℕ × RxOut)) (at_end : Bool) (broken : Option Place) (stop : Option ℕ) (taken : ℕ) → RxKept h f at_end broken stop taken → (p : ℕ) → p ≡ length h → (op : RxOp) (o : RxOut) → RxAdmits (h ++ op ∷ []) (trail told (f ++ (p, o) ∷ [])) p o → IsFrom heap o → (hv : List RxOp) → hv ≡ h ++ op ∷ [] → (added : List (ℕ × RxOut)) → added ≡ (p, o) ∷ [] → AllCome (length hv) told (λ t p o. RxAdmits hv t p o × IsFrom heap o) (trail told f) (places f) added
 rx_comes heap h f at_end broken stop taken k p next op o is from hv eh added ea =
     let len = length-append h (op ∷ []) in let c = k.count in
     subst (λ l. AllCome (length hv) told (λ t p o. RxAdmits hv t p o × IsFrom heap o) (trail told f) (places f) l) (sym ea)
     (subst (λ v. AllCome (length v) told (λ t p o. RxAdmits v t p o × IsFrom heap o) (trail told f) (places f) ((p, o) ∷ [])) (sym eh)
-    (record { served = omega arith; open_yet = fresh p 0 f k.order (omega arith); may_tell = may_tell (above (places f)) p (told o) (none_above p 0 f k.order (omega arith)); admitted = (subst (λ t. RxAdmits (h ++ op ∷ []) t p o) (trail_more f p o) is, from) }, tt))
+    (record { served = omega arith; open_yet = fresh p 0 f k.order (omega arith); may_tell = may_tell (above (places f)) p (told o) (none_above p 0 f k.order (omega arith)); admitted = (subst (λ t. RxAdmits (h ++ op ∷ []) t p o) (trail_more told f p o) is, from) }, tt))
 
 pub rx_none : (h hv : List RxOp) (f fv : List (ℕ × RxOut)) (at_end : Bool) (broken : Option Place) (stop : Option ℕ) (taken : ℕ) → RxKept h f at_end broken stop taken → hv ≡ h → fv ≡ f → (p : ℕ) → p < length hv → Each (λ q. q ≢ p) (places fv) → ⊥
 rx_none h hv f fv at_end broken stop taken k eh ef p lt pends = rx_all h f at_end broken stop taken k p (subst (λ l. p < length l) eh lt) (subst (λ l. Each (λ q. q ≢ p) (places l)) ef pends)

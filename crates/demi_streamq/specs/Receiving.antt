@@ -61,7 +61,7 @@ over p [] = None
 over p (e ∷ es) = cond (ltb e.0 p) (over_by e.1 e.0 (over p es)) (over p es)
 
 -- what was told at the place p
-abbrev pub told_at : ℕ → List (ℕ × RxTold) → Option RxTold
+abbrev pub told_at : {T : Type 0} → ℕ → List (ℕ × T) → Option T
 told_at p [] = None
 told_at p (e ∷ es) = cond (e.0 == p) (Some e.1) (told_at p es)
 
@@ -99,7 +99,7 @@ RxPop (Some Stop) found here n o = o ≡ Halted
 RxPop (Some (Pop max)) found here n o = RxRead max found here n o
 
 -- there is such an operation
-abbrev pub IsThere : Option RxOp → Type 0
+abbrev pub IsThere : {D : Type 0} → Option D → Type 0
 IsThere None = ⊥
 IsThere (Some op) = Unit {0}
 

@@ -29,11 +29,11 @@ pub over_same : (p : ℕ) (t later : List (ℕ × RxTold)) → AllAbove p later 
 over_same p [] later all = over_later p later all
 over_same p (e ∷ es) later all = ap (λ o. cond (ltb e.0 p) (over_by e.1 e.0 o) o) (over_same p es later all)
 
-told_later : (p : ℕ) (later : List (ℕ × RxTold)) → AllAbove p later → told_at p later ≡ None
+told_later : {T : Type 0} (p : ℕ) (later : List (ℕ × T)) → AllAbove p later → told_at p later ≡ None
 told_later p [] all = refl
 told_later p (e ∷ es) all = ap (λ b. cond b (Some e.1) (told_at p es)) (not_same e.0 p all.0) ∙ told_later p es all.1
 
-pub told_same : (p : ℕ) (t later : List (ℕ × RxTold)) → AllAbove p later → told_at p (t ++ later) ≡ told_at p t
+pub told_same : {T : Type 0} (p : ℕ) (t later : List (ℕ × T)) → AllAbove p later → told_at p (t ++ later) ≡ told_at p t
 told_same p [] later all = told_later p later all
 told_same p (e ∷ es) later all = ap (λ o. cond (e.0 == p) (Some e.1) o) (told_same p es later all)
 
@@ -45,12 +45,12 @@ pub bytes_same : (p : ℕ) (t later : List (ℕ × RxTold)) → AllAbove p later
 bytes_same p [] later all = bytes_later p later all
 bytes_same p (e ∷ es) later all = ap (λ l. cond (ltb e.0 p) (bytes_in e.1) [] ++ l) (bytes_same p es later all)
 
-got_append : {A : Type 0} (h more : List A) (p : ℕ) (d : A) → slice_get h p ≡ Some d → slice_get (h ++ more) p ≡ Some d
+pub got_append : {A : Type 0} (h more : List A) (p : ℕ) (d : A) → slice_get h p ≡ Some d → slice_get (h ++ more) p ≡ Some d
 got_append [] more p d e = absurd (cc)
 got_append (x ∷ xs) more zero d e = e
 got_append (x ∷ xs) more (suc p) d e = got_append xs more p d e
 
-take_got : {A : Type 0} (h more : List A) (p : ℕ) (d : A) → slice_get h p ≡ Some d → take p (h ++ more) ≡ take p h
+pub take_got : {A : Type 0} (h more : List A) (p : ℕ) (d : A) → slice_get h p ≡ Some d → take p (h ++ more) ≡ take p h
 take_got [] more p d e = absurd (cc)
 take_got (x ∷ xs) more zero d e = refl
 take_got (x ∷ xs) more (suc p) d e = λ i. x ∷ take_got xs more p d e i
@@ -61,7 +61,7 @@ there None (Some d) f t n o is = (d, refl)
 there (Some s) None f t n o is = absurd is.1
 there (Some s) (Some d) f t n o is = (d, refl)
 
-both : {P Q : Type 0} → ◌≡◌ {A = Type 0} P Q → (P ↔ Q)
+pub both : {P Q : Type 0} → ◌≡◌ {A = Type 0} P Q → (P ↔ Q)
 both e = ((λ p. subst (λ (X : Type 0). X) e p), λ q. subst (λ (X : Type 0). X) (sym e) q)
 
 pub rx_steady : (h more : List RxOp) (t later : List (ℕ × RxTold)) (p : ℕ) (o x : RxOut) → RxAdmits h t p o → AllAbove p later → (RxAdmits (h ++ more) (t ++ later) p x ↔ RxAdmits h t p x)

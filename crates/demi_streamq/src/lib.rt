@@ -8,9 +8,9 @@
 #![tactic(auto)]
 
 mod base;
-mod heard;
 mod rx_answering;
 mod rx_engine;
+mod rx_heard;
 mod rx_law;
 mod rx_op;
 mod rx_out;
@@ -18,6 +18,13 @@ mod rx_reading;
 mod rx_told;
 #[cfg(test)]
 mod tests;
+mod tx_answering;
+mod tx_engine;
+mod tx_heard;
+mod tx_law;
+mod tx_op;
+mod tx_out;
+mod tx_writing;
 
 pub use base::StreamBase;
 pub use rx_engine::RxEngine;
@@ -25,3 +32,7 @@ pub use rx_law::RxLaw;
 pub use rx_op::RxOp;
 pub use rx_out::RxOut;
 pub use rx_told::RxTold;
+pub use tx_engine::TxEngine;
+pub use tx_law::TxLaw;
+pub use tx_op::TxOp;
+pub use tx_out::TxOut;

@@ -7,7 +7,7 @@ ghost use Rattle.demi_streamq.specs.RxGoing.{RxDid};
 ghost use Rattle.demi_streamq.specs.RxKept.{bytes_of, ended_after, IsEnd, IsFault, NoneLeft, pieces_of, RxServes};
 ghost use Rattle.demi_streamq.specs.RxState.{IsKept};
 
-use crate::heard::{RxHistory, RxOutcomes};
+use crate::rx_heard::{RxHistory, RxOutcomes};
 use crate::rx_reading::read_piece;
 use crate::{RxOp, RxOut};
 use demi_core::Source;

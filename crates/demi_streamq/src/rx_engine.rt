@@ -3,8 +3,8 @@ ghost use Rattle.std.specs.Prelude.{◌≡◌, ◌⊎◌, []};
 ghost use Rattle.demi_device.specs.Serving.{HasStop};
 ghost use Rattle.demi_streamq.specs.Receiving.{is_stop};
 
-use crate::heard::{RxHistory, RxOutcomes, finished, heard, no_history, no_outcomes};
 use crate::rx_answering::RxState;
+use crate::rx_heard::{RxHistory, RxOutcomes, finished, heard, no_history, no_outcomes};
 use crate::{RxLaw, RxOp};
 use demi_core::{NoMemory, Source};
 use demi_device::{Done, Engine};

@@ -1,5 +1,5 @@
 use Rattle.std.proofs.Common.{[]}
-use Rattle.demi_streamq.proofs.heard.no_outcomes.Given as goal
+use Rattle.demi_streamq.proofs.rx_heard.no_history.Given as goal
 
 abbrev pub ghost-from : goal.ghost-from
 ghost-from a = []
