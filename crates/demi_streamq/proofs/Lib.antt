@@ -1,0 +1,5 @@
+pub mod Orders
+pub mod Pages
+pub mod Parts
+pub mod RxSteps
+pub mod TxSteps

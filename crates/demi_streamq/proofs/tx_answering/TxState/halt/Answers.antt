@@ -1,0 +1,16 @@
+use Rattle.std.proofs.Common.{◌≡◌, ap, refl, sym, ◌∙◌, length}
+use Rattle.demi_streamq.specs.declared.tx_op.TxOp.TheVariants.{Push, Close, Stop}
+use Rattle.demi_streamq.proofs.TxSteps.{tx_stopped, tx_broken, tx_closed, tx_shut, tx_halted, tx_pushed, tx_fault}
+use Rattle.demi_streamq.proofs.tx_answering.TxState.halt.Goals as goal
+
+pub returns-in-Some-clause-kept : goal.returns-in-Some-clause-kept
+returns-in-Some-clause-kept c = (tx_stopped c.args.history.now.value c.args.outcomes.now.value c.args.self.now.closed _ _ c.requires.kept Stop c.in-Some.at.0 (ap (Rattle.std.specs.Option.option_map (λ p. p.0)) c.in-Some.is)).0
+
+pub returns-in-Some-clause-admitted : goal.returns-in-Some-clause-admitted
+returns-in-Some-clause-admitted c = (tx_stopped c.args.history.now.value c.args.outcomes.now.value c.args.self.now.closed _ _ c.requires.kept Stop c.in-Some.at.0 (ap (Rattle.std.specs.Option.option_map (λ p. p.0)) c.in-Some.is)).1
+
+pub returns-clause-kept : goal.returns-clause-kept
+returns-clause-kept c = (tx_halted c.args.history.now.value c.args.outcomes.now.value c.args.self.now.closed _ _ c.requires.kept c.args.place.0 c.requires.next (ap (Rattle.std.specs.Option.option_map (λ p. p.0)) c.in_default.is)).0
+
+pub returns-clause-admitted : goal.returns-clause-admitted
+returns-clause-admitted c = (tx_halted c.args.history.now.value c.args.outcomes.now.value c.args.self.now.closed _ _ c.requires.kept c.args.place.0 c.requires.next (ap (Rattle.std.specs.Option.option_map (λ p. p.0)) c.in_default.is)).1

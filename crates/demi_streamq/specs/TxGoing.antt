@@ -1,0 +1,88 @@
+-- What a sending engine becomes by calls.
+use Rattle.std.specs.Prelude.{◌≡◌, ℕ, zero, suc, ◌+◌, ◌≤◌, List, [], ◌∷◌, ◌++◌, length, Option, Some, None, ◌⊎◌, min, refl}
+use Rattle.std.proofs.Common.{sym, ap, ◌∙◌, arith, append_assoc, length-append, inl, inr}
+use Rattle.std.specs.Io.KnownBytes.{append_known}
+use Rattle.demi_core.specs.Outside.{Rose}
+use Rattle.demi_heap.specs.Seen.{PassValue}
+use Rattle.demi_streamq.specs.declared.tx_op.TxOp.{TxOp}
+use Rattle.demi_streamq.specs.declared.tx_out.TxOut.{TxOut}
+use Rattle.demi_streamq.specs.RxSteady.{append_none}
+use Rattle.demi_streamq.specs.TxKept.{all_segments, all_written, bytes_of, HasFault, written_of}
+
+-- what a contract sees of a sending engine: its sink, its heap pass, what it was served and what it finished
+pub record TxValue (S : Type 0) : Type 0 where
+  pub sink : S
+  pub pass : PassValue
+  pub served : List TxOp
+  pub finished : List (ℕ × TxOut)
+
+-- Over some calls: operations were served, and each has its outcome. Their bytes, as far as the outcomes say, were written in
+-- their order, and the sink's count of faults rose where one is a fault. The pass has ended the device half of each segment that was
+-- pushed, and done nothing else.
+pub record TxGoes {S : Type 0} (written : S → Option (List ℕ)) (faults : S → ℕ) (a b : TxValue S) : Type 0 where
+  pub more : List TxOp
+  pub added : List (ℕ × TxOut)
+  pub served : b.served ≡ a.served ++ more
+  pub finished : b.finished ≡ a.finished ++ added
+  pub even : length added ≡ length more
+  pub written_is : written b.sink ≡ append_known (written a.sink) (all_written more added)
+  pub later : faults a.sink ≤ faults b.sink
+  pub rose : HasFault added → Rose (faults a.sink) (faults b.sink)
+  pub pass : b.pass ≡ record a.pass { returned = b.pass.returned }
+  pub numbers : b.pass.returned ≡ a.pass.returned + all_segments more
+
+pub written_append : (m n : List TxOp) (a b : List (ℕ × TxOut)) → length a ≡ length m → all_written (m ++ n) (a ++ b) ≡ all_written m a ++ all_written n b
+written_append [] n [] b e = refl
+written_append [] n (o ∷ os) b e = absurd (omega arith)
+written_append (op ∷ ops) n [] b e = absurd (omega arith)
+written_append (op ∷ ops) n (o ∷ os) b e =
+    ap (λ l. written_of (bytes_of op) o.1 ++ l) (written_append ops n os b (omega arith)) ∙ sym (append_assoc (written_of (bytes_of op) o.1) (all_written ops os) (all_written n b))
+
+pub segments_append : (m n : List TxOp) → all_segments (m ++ n) ≡ all_segments m + all_segments n
+segments_append [] n = omega arith
+segments_append (op ∷ ops) n = let e = segments_append ops n in omega arith
+
+fault_in : (a b : List (ℕ × TxOut)) → HasFault (a ++ b) → HasFault a ⊎ HasFault b
+fault_in [] b f = inr f
+fault_in (o ∷ os) b f = elim f [ inl x ↦ inl (inl x) | inr y ↦ elim (fault_in os b y) [ inl u ↦ inl (inr u) | inr v ↦ inr v ] ]
+
+known_none : (k : Option (List ℕ)) → k ≡ append_known k []
+known_none None = refl
+known_none (Some l) = ap Some (sym (append_none l))
+
+pub known_twice : (k : Option (List ℕ)) (a b : List ℕ) → append_known (append_known k a) b ≡ append_known k (a ++ b)
+known_twice None a b = refl
+known_twice (Some l) a b = ap Some (append_assoc l a b)
+
+module _ {S : Type 0} (written : S → Option (List ℕ)) (faults : S → ℕ) where
+  pub tx_goes_self : (e : TxValue S) → TxGoes written faults e e
+  tx_goes_self e =
+      record {
+        more = [];
+        added = [];
+        served = sym (append_none e.served);
+        finished = sym (append_none e.finished);
+        even = refl;
+        written_is = known_none (written e.sink);
+        later = omega arith;
+        rose = λ f. absurd f;
+        pass = refl;
+        numbers = omega arith;
+      }
+
+  pub tx_goes_on : (a b c : TxValue S) → TxGoes written faults a b → TxGoes written faults b c → TxGoes written faults a c
+  tx_goes_on a b c p q =
+      record {
+        more = p.more ++ q.more;
+        added = p.added ++ q.added;
+        served = q.served ∙ ap (λ l. l ++ q.more) p.served ∙ append_assoc a.served p.more q.more;
+        finished = q.finished ∙ ap (λ l. l ++ q.added) p.finished ∙ append_assoc a.finished p.added q.added;
+        even = let x = p.even in let y = q.even in let l = length-append p.added q.added in let k = length-append p.more q.more in omega arith;
+        written_is =
+            q.written_is ∙ ap (λ k. append_known k (all_written q.more q.added)) p.written_is ∙ known_twice (written a.sink) (all_written p.more p.added) (all_written q.more q.added)
+            ∙ ap (append_known (written a.sink)) (sym (written_append p.more q.more p.added q.added p.even));
+        later = let x = p.later in let y = q.later in omega arith;
+        rose = λ f. elim (fault_in p.added q.added f) [ inl u ↦ let r = p.rose u in let y = q.later in omega arith | inr v ↦ let r = q.rose v in let x = p.later in omega arith ];
+        pass = q.pass ∙ ap (λ (v : PassValue). record v { returned = c.pass.returned }) p.pass;
+        numbers = let x = p.numbers in let y = q.numbers in let l = segments_append p.more q.more in omega arith;
+      }
