@@ -53,8 +53,8 @@ pub record Lost {D : Type 0} (faults : D → ℕ) (cuts : D → ℕ → Bool →
   pub call : cuts old.disk (place_of old.ends n) false new.disk
   pub cause : Rose (faults old.disk) (faults new.disk)
 
-abbrev pub Kept : {D : Type 0} → (D → Option (List ℕ)) → (D → ℕ) → (D → ℕ) → (D → ℕ → Bool → D → Type 0) → Logged D → Logged D → ℕ → Result (Unit {0}) LogRefusal → Type 0
-Kept bytes held faults cuts old new n (Ok done) = Cut bytes cuts old new n
-Kept bytes held faults cuts old new n (Err refusal.Failed) = Lost faults cuts old new n
-Kept bytes held faults cuts old new n (Err refusal.Broken) = IsBroken old × (new ≡ old)
-Kept bytes held faults cuts old new n (Err other) = ⊥
+abbrev pub Shortened : {D : Type 0} → (D → Option (List ℕ)) → (D → ℕ) → (D → ℕ) → (D → ℕ → Bool → D → Type 0) → Logged D → Logged D → ℕ → Result (Unit {0}) LogRefusal → Type 0
+Shortened bytes held faults cuts old new n (Ok done) = Cut bytes cuts old new n
+Shortened bytes held faults cuts old new n (Err refusal.Failed) = Lost faults cuts old new n
+Shortened bytes held faults cuts old new n (Err refusal.Broken) = IsBroken old × (new ≡ old)
+Shortened bytes held faults cuts old new n (Err other) = ⊥

@@ -2,7 +2,7 @@ ghost use Rattle.std.specs.Prelude.{◌≡◌, ◌≢◌, ◌+◌, ◌-◌, ◌^
 ghost use Rattle.std.specs.Io.KnownBytes.{append_known};
 ghost use Rattle.demi_core.specs.Outside.{HasCause, Rose, GrowsByFront, disk_max};
 ghost use Rattle.demi_spec.specs.LogText.{entries, entry, header};
-ghost use Rattle.demi_logq.specs.Calls.{Committed, Kept};
+ghost use Rattle.demi_logq.specs.Calls.{Committed, Shortened};
 ghost use Rattle.demi_logq.specs.Logged.{Logged, Holds, Stands, Opened, OpenedBy, NotOpenedBy, LeftAs, IsSound, place_of};
 ghost use Rattle.demi_logq.specs.Reading.{IsAhead};
 
@@ -222,7 +222,7 @@ impl<D: Disk> Log<D> {
     /// Keeps the first entries alone.
     pub fn keep(&mut self, n: u64) -> Result<(), LogRefusal>
         requires { n ≤ length self.old.ends }
-        ensures done { Kept D.bytes D.held D.faults D.cuts self.old self.new n result }
+        ensures done { Shortened D.bytes D.held D.faults D.cuts self.old self.new n result }
         ensures later { D.faults self.old.disk ≤ D.faults self.new.disk }
     {
         if self.torn || self.lost {

@@ -3,7 +3,7 @@ use Rattle.std.specs.Prelude.{Option, Some, None, Result, Err, option_map}
 use Rattle.demi_port_core.specs.declared.place.Place.{Place}
 use Rattle.demi_logq.specs.Logged.{Logged, place_of}
 use Rattle.std.proofs.lemmas.List.{length-take-le}
-use Rattle.demi_logq.specs.Calls.{Kept}
+use Rattle.demi_logq.specs.Calls.{Shortened}
 use Rattle.demi_logq.specs.declared.refusal.LogRefusal.{LogRefusal}
 use Rattle.demi_logq.proofs.Saying.{payloads_count, bad_cut, cut_failed, was_cut, tells_map}
 use Rattle.demi_logq.proofs.queue.Queue.truncate.Goals as goal
@@ -44,7 +44,7 @@ returns-in-Ok-clause-answered g c =
 pub returns-in-Err-Failed-clause-answered : goal.returns-in-Err-Failed-clause-answered
 returns-in-Err-Failed-clause-answered g c =
     let r = c.requires.shows in let b = c.args.base.now.value in let s = c.args.stands.now.value in
-    let w = r.whole c.requires.calm.1 in let d = subst (λ (o : Result (Unit {0}) LogRefusal). Kept g.D.Disk.bytes g.D.Disk.held g.D.Disk.faults g.D.Disk.cuts c.args.self.now.log c.keep.new.self c.args.keep o) (c.in-Err-Failed.is ∙ ap Err c.in-Err-Failed.field-0-is) c.keep.ensures.done in
+    let w = r.whole c.requires.calm.1 in let d = subst (λ (o : Result (Unit {0}) LogRefusal). Shortened g.D.Disk.bytes g.D.Disk.held g.D.Disk.faults g.D.Disk.cuts c.args.self.now.log c.keep.new.self c.args.keep o) (c.in-Err-Failed.is ∙ ap Err c.in-Err-Failed.field-0-is) c.keep.ensures.done in
     let n = payloads_count _ _ s.payloads w.holds in let count = c.count.ensures.count in let within = c.if-keep-count.false in
     cut_failed b.told b.heap b.limit c.args.place.0 s _ (sym r.stop_is ∙ ap (option_map (λ (p : Place). p.0)) c.requires.calm.0) (sym r.fault_is ∙ ap (option_map (λ (p : Place). p.0)) c.requires.calm.1)
     c.args.keep (omega arith)
