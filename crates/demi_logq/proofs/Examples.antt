@@ -1,5 +1,5 @@
 -- Histories with what each of their operations is answered.
-use Rattle.std.specs.Prelude.{◌≡◌, ℕ, zero, suc, ◌+◌, List, [], ◌∷◌, Option, Some, None, length, replicate, refl}
+use Rattle.std.specs.Prelude.{◌≡◌, ℕ, ◌+◌, List, [], ◌∷◌, refl}
 use Rattle.demi_buf.specs.declared.class.Class.TheVariants.{Small}
 use Rattle.demi_heap.specs.Seen.{HeapId, HalfValue}
 use Rattle.demi_logq.specs.declared.op.LogOp.{LogOp}

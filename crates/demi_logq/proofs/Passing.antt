@@ -1,11 +1,10 @@
 -- What the numbers of a pass come to, call by call.
 use mathlib.Core.Option.{some}
 use lib.ListN.{get_elem?}
-use Rattle.std.proofs.Common.{◌≡◌, ℕ, ◌+◌, ◌<◌, ◌≤◌, List, ap, sym, ◌∙◌, arith, subst}
-use Rattle.demi_heap.specs.Seen.{PassValue, Looked, SawOwned, looked_as, one_claimed, one_ended, one_returned}
+use Rattle.std.proofs.Common.{◌≡◌, ℕ, ◌+◌, ◌<◌, ◌≤◌, ap, sym, ◌∙◌, arith, subst}
+use Rattle.demi_heap.specs.Seen.{PassValue, looked_as, one_claimed, one_ended}
 use Rattle.demi_heap.specs.Rule.{first_of, end_of}
 use Rattle.demi_sga.specs.Arrays.{returned_by}
-use Rattle.demi_buf.specs.declared.class.Class.{Class}
 use Rattle.demi_logq.specs.Items.{Accounts, FoundNone}
 
 module _ (v w : PassValue) where

@@ -1,9 +1,9 @@
 -- What an engine was served and finished, one operation further.
-use Rattle.std.proofs.Common.{◌≡◌, ℕ, ◌+◌, List, [], ◌∷◌, ◌++◌, length, ap, sym, ◌∙◌, subst, arith, refl}
+use Rattle.std.proofs.Common.{◌≡◌, ℕ, List, [], ◌∷◌, ◌++◌, length, ap, sym, ◌∙◌, subst}
 use Rattle.demi_device.specs.Serving.{AllCome, places, trail}
 use Rattle.demi_logq.specs.declared.op.LogOp.{LogOp}
 use Rattle.demi_logq.specs.declared.out.LogOut.{LogOut}
-use Rattle.demi_logq.specs.Folding.{Answer, Standing, said_at}
+use Rattle.demi_logq.specs.Folding.{Standing, said_at}
 use Rattle.demi_logq.specs.Answers.{LogBasis, Admits, Is, told_by}
 use Rattle.demi_logq.specs.Engine.{IsServed, PastValue, stands_now}
 use Rattle.demi_logq.proofs.Steps.{comes, count_next, order_next, stood_on}

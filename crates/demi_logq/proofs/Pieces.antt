@@ -1,5 +1,5 @@
 -- The bytes of an array, part by part.
-use Rattle.std.proofs.Common.{◌≡◌, ℕ, zero, suc, ◌+◌, ◌-◌, ◌<◌, ◌≤◌, List, [], ◌∷◌, ◌++◌, length, take, drop, Bool, true, false, cond, sym, refl, ap, ◌∙◌, subst, arith, length-append, length-drop, take_all, append_assoc}
+use Rattle.std.proofs.Common.{◌≡◌, ℕ, zero, suc, ◌+◌, ◌-◌, ◌<◌, ◌≤◌, List, [], ◌∷◌, ◌++◌, length, take, drop, Bool, true, false, cond, sym, refl, ap, ◌∙◌, arith, length-append, length-drop, take_all, append_assoc}
 use Rattle.std.specs.Prelude.{ltb, Option, Some, None, IfSome, Result, Ok, Err, OnOk}
 use Rattle.std.proofs.lemmas.Bool.{ltb-true, ltb-false}
 use Rattle.demi_heap.specs.Seen.{HalfValue}

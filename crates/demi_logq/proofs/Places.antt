@@ -1,16 +1,14 @@
 -- Entries that are found from the front on.
-use Rattle.std.proofs.Common.{◌≡◌, ◌≢◌, ℕ, zero, suc, ◌+◌, ◌-◌, ◌≤◌, ◌<◌, min, Bool, false, true, not, List, [], ◌∷◌, ◌++◌, length, take, drop, get_or, Option, None, Some, refl, arith, ◌∙◌, ap, sym, cond, subst, nat_lt, append_assoc, length-append, flat_map, length-drop, inl, inr, ◌⊎◌, replicate}
-use Rattle.std.specs.Prelude.{Err, Ok, IfSome, bytes_eq, Decides}
+use Rattle.std.proofs.Common.{◌≡◌, ◌≢◌, ℕ, ◌+◌, ◌-◌, ◌≤◌, ◌<◌, min, Bool, false, true, not, List, [], ◌∷◌, ◌++◌, length, take, drop, Option, None, Some, refl, arith, ◌∙◌, ap, sym, subst, nat_lt, length-append, flat_map, length-drop, inl, inr, ◌⊎◌, replicate}
+use Rattle.std.specs.Prelude.{Err, IfSome, bytes_eq, Decides}
 use Rattle.std.specs.List.{AllByRecursion}
 use Rattle.std.specs.Int.{w32, to_be_bytes, from_be_bytes}
 use Rattle.std.proofs.Math.Seq.{take-add}
 use Rattle.std.proofs.lemmas.Bool.Decides.{nat_tests}
-use Rattle.std.proofs.lemmas.Bool.{cases_lt}
 use Rattle.std.proofs.lemmas.Slice.Eq.{bytes_eq-Decides}
-use Rattle.std.proofs.lemmas.List.{take-append-drop, append-nil, length-take, flat_map_more, length-replicate, take_all}
-use Rattle.std.proofs.lemmas.Nat.{be_bytes_4}
+use Rattle.std.proofs.lemmas.List.{take-append-drop, length-take, flat_map_more, length-replicate, take_all}
 use Rattle.demi_spec.specs.LogText.{header, entry, log_text, IsPayload, entries, entry_front, length_that_fits}
-use Rattle.demi_spec.proofs.LogTexts.{entries_text, entries_bad, entries_headless}
+use Rattle.demi_spec.proofs.LogTexts.{entries_bad, entries_headless}
 use Rattle.demi_logq.specs.Logged.{Found, ends_from, end_of}
 use Rattle.demi_logq.specs.declared.refusal.LogRefusal.TheVariants.{BadLog}
 

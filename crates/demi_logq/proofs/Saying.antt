@@ -2,16 +2,14 @@
 use Rattle.std.proofs.Common.{◌≡◌, ◌≢◌, ℕ, ◌+◌, ◌<◌, ◌≤◌, List, [], ◌∷◌, ◌++◌, length, take, get_or, min, Bool, true, false, cond, ap, sym, ◌∙◌, subst, arith, refl}
 use Rattle.std.specs.Prelude.{Option, Some, None, ◌==◌, ◌||◌, nat_le, nat_lt, option_map}
 use Rattle.std.proofs.lemmas.Bool.Decides.{nat_tests}
-use Rattle.demi_heap.specs.Seen.{HeapId, HalfValue, PassValue}
-use Rattle.demi_port_core.specs.declared.place.Place.{Place}
+use Rattle.demi_heap.specs.Seen.{HeapId, HalfValue}
 use Rattle.demi_logq.specs.declared.op.LogOp.{LogOp}
-use Rattle.demi_logq.specs.declared.op.LogOp.TheVariants.{Push, Pop, Seek, Truncate, Stop}
+use Rattle.demi_logq.specs.declared.op.LogOp.TheVariants.{Push, Pop, Seek, Truncate}
 use Rattle.demi_logq.specs.declared.out.LogOut.{LogOut}
 use Rattle.demi_logq.specs.declared.out.LogOut.TheVariants.{Appended, BadSize, LogFull, Item, AtEnd, Sought, Cut, BadIndex, NoSlot, Fault}
 use Rattle.demi_logq.specs.declared.told.LogTold.{LogTold}
-use Rattle.demi_logq.specs.declared.told.LogTold.TheVariants.{ByDisk, BySlot}
-use Rattle.demi_logq.specs.Logged.{Logged, Holds}
-use Rattle.demi_logq.specs.Folding.{Answer, Just, Entry, Standing, bytes_of, said_at, said_by, said_open, unless_failed, pop_one}
+use Rattle.demi_logq.specs.Logged.{Holds}
+use Rattle.demi_logq.specs.Folding.{Answer, Just, Entry, Standing, bytes_of, said_at, said_by, said_open}
 use Rattle.demi_logq.specs.Answers.{Is, IsItem, told_by}
 use Rattle.std.specs.Io.KnownBytes.{append_known}
 use Rattle.demi_logq.specs.Items.{tells}

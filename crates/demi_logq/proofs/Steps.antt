@@ -1,18 +1,18 @@
 -- One operation further.
-use Rattle.std.proofs.Common.{◌≡◌, ◌≢◌, ℕ, zero, suc, ◌+◌, ◌<◌, ◌≤◌, max, List, [], ◌∷◌, ◌++◌, length, take, cond, ap, sym, ◌∙◌, subst, arith, refl, length-append}
+use Rattle.std.proofs.Common.{◌≡◌, ◌≢◌, ℕ, ◌+◌, ◌<◌, ◌≤◌, List, [], ◌∷◌, ◌++◌, length, take, cond, ap, sym, ◌∙◌, subst, arith, refl, length-append}
 use Rattle.std.specs.Prelude.{Option, Some, None, slice_get, ◌==◌}
-use Rattle.std.proofs.lemmas.List.{take-append-le, length-take-le}
+use Rattle.std.proofs.lemmas.List.{take-append-le}
 use Rattle.std.proofs.Common.{take_all, append_assoc}
 use Rattle.demi_port_core.specs.History.{Each}
 use Rattle.demi_port_core.specs.Trails.{MayTell, told_at}
-use Rattle.demi_device.specs.Serving.{AllCome, EachMayPend, NonePends, above, places, trail}
+use Rattle.demi_device.specs.Serving.{AllCome, NonePends, above, places, trail}
 use Rattle.demi_logq.specs.declared.op.LogOp.{LogOp}
 use Rattle.demi_logq.specs.declared.out.LogOut.{LogOut}
 use Rattle.demi_logq.specs.declared.out.LogOut.TheVariants.{Appended, BadSize, LogFull, Item, AtEnd, Sought, Cut, BadIndex, NoSlot, Fault, Broken, Stopped, Halted}
 use Rattle.demi_heap.specs.Seen.{HeapId}
 use Rattle.std.specs.Prelude.{Bool}
 use Rattle.demi_logq.specs.declared.told.LogTold.{LogTold}
-use Rattle.demi_logq.specs.Folding.{Answer, Just, Entry, Standing, said_at, standing, standing_from, opened, log_result}
+use Rattle.demi_logq.specs.Folding.{Answer, Just, Entry, Standing, said_at, standing, standing_from, opened}
 use Rattle.demi_logq.specs.Answers.{LogBasis, Admits, Is, IsFrom, said_to, struck_at, told_by}
 use Rattle.demi_logq.specs.Steady.{standing_same}
 use Rattle.demi_logq.specs.Engine.{InOrder, stood}

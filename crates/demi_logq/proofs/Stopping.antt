@@ -1,18 +1,18 @@
 -- Where the first stop is, and what payloads an engine stands on.
-use Rattle.std.proofs.Common.{◌≡◌, ℕ, zero, suc, ◌+◌, ◌-◌, ◌<◌, ◌≤◌, List, [], ◌∷◌, ◌++◌, length, take, min, Bool, true, false, cond, ap, sym, ◌∙◌, subst, arith, refl}
-use Rattle.std.specs.Prelude.{Option, Some, None, Ok, IfSome, replicate, ◌==◌, ◌||◌, nat_le, nat_lt}
+use Rattle.std.proofs.Common.{◌≡◌, ℕ, ◌+◌, ◌-◌, List, [], ◌∷◌, ◌++◌, length, take, min, Bool, true, false, cond, ap, sym, ◌∙◌, subst, arith, refl}
+use Rattle.std.specs.Prelude.{Option, Some, None, IfSome, replicate, ◌==◌, ◌||◌, nat_le, nat_lt}
 use Rattle.std.proofs.lemmas.List.{length-replicate}
 use Rattle.std.specs.List.{AllByRecursion}
 use Rattle.demi_spec.specs.LogText.{payload_max}
 use Rattle.demi_logq.specs.declared.out.LogOut.TheVariants.{Appended, BadSize, LogFull, AtEnd, Sought, Cut, BadIndex}
-use Rattle.demi_spec.specs.LogText.{IsPayload, entries}
+use Rattle.demi_spec.specs.LogText.{IsPayload}
 use Rattle.demi_device.specs.Serving.{first_stop}
 use Rattle.demi_logq.specs.declared.op.LogOp.{LogOp}
 use Rattle.demi_logq.specs.declared.op.LogOp.TheVariants.{Push, Pop, Seek, Truncate, Stop}
 use Rattle.demi_logq.specs.declared.told.LogTold.{LogTold}
 use Rattle.demi_logq.specs.declared.told.LogTold.TheVariants.{ByDisk, BySlot}
 use Rattle.demi_logq.specs.Logged.{Holds, ends_from, end_of}
-use Rattle.demi_logq.specs.Folding.{Answer, Just, Standing, bytes_of, said_at, said_by, said_open, standing_from, pop_one, unless_failed, push_open, pop_open, seek_open, truncate_open}
+use Rattle.demi_logq.specs.Folding.{Answer, Just, Standing, bytes_of, said_at, said_by, said_open, standing_from, pop_one, unless_failed}
 use Rattle.demi_logq.specs.Answers.{is_stop}
 use Rattle.demi_logq.specs.Engine.{blanks, payloads_in, read_of}
 use Rattle.demi_logq.proofs.Holding.{holds_read}

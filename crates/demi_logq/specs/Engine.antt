@@ -1,17 +1,15 @@
 -- What a contract sees of the engine of a log's queue.
-use Rattle.std.specs.Prelude.{◌≡◌, ℕ, ◌+◌, List, [], ◌∷◌, ◌++◌, length, take, drop, replicate, map, Option, Some, None, Result, Ok, Err, refl, option_map}
+use Rattle.std.specs.Prelude.{◌≡◌, ℕ, ◌+◌, List, [], ◌∷◌, ◌++◌, length, replicate, Option, Some, None, Result, Ok, Err, refl}
 use Rattle.std.proofs.Common.{◌∙◌, ap, sym}
-use Rattle.demi_core.specs.Outside.{Rose}
 use Rattle.demi_spec.specs.LogText.{entries}
 use Rattle.demi_heap.specs.Seen.{HeapId, PassValue}
-use Rattle.demi_port_core.specs.declared.place.Place.{Place}
 use Rattle.demi_device.specs.Serving.{trail}
 use Rattle.demi_logq.specs.declared.op.LogOp.{LogOp}
 use Rattle.demi_logq.specs.declared.out.LogOut.{LogOut}
 use Rattle.demi_logq.specs.Logged.{Logged}
 use Rattle.demi_logq.specs.Folding.{Standing, standing}
 use Rattle.demi_logq.specs.Answers.{LogBasis, struck_at, told_by}
-use Rattle.demi_logq.specs.Queues.{Moves, Shows}
+use Rattle.demi_logq.specs.Queues.{Moves}
 use Rattle.std.specs.Prelude.{Bool, ◌-◌}
 use Rattle.demi_logq.specs.Items.{tells}
 

@@ -1,5 +1,5 @@
 -- What the queue of a log says to an operation, by a fold over the payloads of the log and a cursor.
-use Rattle.std.specs.Prelude.{ℕ, zero, suc, ◌+◌, ◌==◌, ◌||◌, min, nat_le, nat_lt, cond, List, [], ◌∷◌, ◌++◌, length, take, flat_map, get_or, Option, Some, None}
+use Rattle.std.specs.Prelude.{ℕ, ◌+◌, ◌==◌, ◌||◌, min, nat_le, nat_lt, cond, List, [], ◌∷◌, ◌++◌, length, take, flat_map, get_or, Option, Some, None}
 use Rattle.demi_heap.specs.Seen.{HalfValue}
 use Rattle.demi_port_core.specs.declared.place.Place.{Place}
 use Rattle.demi_spec.specs.LogText.{payload_max}

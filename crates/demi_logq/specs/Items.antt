@@ -3,7 +3,7 @@ use Rattle.std.specs.Prelude.{◌≡◌, ℕ, ◌+◌, ◌≤◌, Bool, true, fa
 use Rattle.demi_buf.specs.declared.class.Class.{Class}
 use Rattle.demi_core.specs.Outside.{Rose}
 use Rattle.demi_heap.specs.Rule.{first_of, end_of}
-use Rattle.demi_heap.specs.Seen.{HeapId, HalfValue, PassValue, SawOwned}
+use Rattle.demi_heap.specs.Seen.{HeapId, PassValue, SawOwned}
 use Rattle.demi_logq.specs.Logged.{Logged, Holds}
 use Rattle.demi_logq.specs.Answers.{IsItem}
 use Rattle.demi_logq.specs.declared.item.Taken.{Taken}

@@ -1,9 +1,9 @@
 -- What a log holds, as its callers see it, and how its fields stand for that.
-use Rattle.std.specs.Prelude.{◌≡◌, ℕ, zero, suc, ◌+◌, ◌-◌, ◌<◌, ◌≤◌, ◌==◌, Bool, true, false, ◌||◌, if◌then◌else◌, List, [], ◌∷◌, ◌++◌, length, take, drop, get_or, map, flat_map, replicate, Option, Some, None, IfSome, option_map, vec_capacity, vec_len}
+use Rattle.std.specs.Prelude.{◌≡◌, ℕ, ◌+◌, ◌-◌, ◌<◌, ◌≤◌, ◌==◌, Bool, true, false, if◌then◌else◌, List, [], ◌∷◌, length, take, get_or, Option, IfSome}
 use Rattle.std.specs.List.{AllByRecursion}
 use Rattle.demi_core.specs.Outside.{GrowsByFront, disk_max}
-use Rattle.demi_spec.specs.LogText.{entries, log_text, entry, IsPayload, header}
-use Rattle.std.specs.Prelude.{Ok, Err, ◌^◌, ◌⊎◌}
+use Rattle.demi_spec.specs.LogText.{entries, log_text, IsPayload, header}
+use Rattle.std.specs.Prelude.{Ok, ◌⊎◌}
 
 -- where the entries end, the first of which begins at this place
 abbrev pub ends_from : ℕ → List (List ℕ) → List ℕ

@@ -1,7 +1,7 @@
 -- How a log's queue stands for what its operations made of it, and what one operation does.
-use Rattle.std.specs.Prelude.{◌≡◌, ℕ, ◌+◌, ◌≤◌, Bool, true, false, List, [], ◌∷◌, ◌++◌, length, take, Option, Some, None, option_map}
+use Rattle.std.specs.Prelude.{◌≡◌, ℕ, ◌≤◌, Bool, true, false, List, [], ◌∷◌, ◌++◌, length, take, Option, None, option_map}
 use Rattle.demi_core.specs.Outside.{Rose}
-use Rattle.demi_heap.specs.Seen.{HeapId, HalfValue, PassValue}
+use Rattle.demi_heap.specs.Seen.{HeapId, PassValue}
 use Rattle.demi_port_core.specs.declared.place.Place.{Place}
 use Rattle.demi_spec.specs.LogText.{entry}
 use Rattle.demi_logq.specs.declared.op.LogOp.{LogOp}

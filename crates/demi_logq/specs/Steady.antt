@@ -8,7 +8,7 @@ use Rattle.demi_port_core.specs.History.{AllAbove}
 use Rattle.demi_logq.specs.declared.op.LogOp.{LogOp}
 use Rattle.demi_logq.specs.declared.out.LogOut.{LogOut}
 use Rattle.demi_logq.specs.declared.told.LogTold.{LogTold}
-use Rattle.demi_logq.specs.Folding.{Answer, Standing, said_at, standing_from, opened, log_result}
+use Rattle.demi_logq.specs.Folding.{Standing, said_at, standing_from, opened, log_result}
 use Rattle.demi_logq.specs.Answers.{LogBasis, Is, Admits, said_to, struck_at}
 
 -- what stands behind operations hangs on what is told of their places alone

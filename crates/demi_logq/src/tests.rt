@@ -1,4 +1,6 @@
 // Logs over disks in memory.
+mod queue;
+
 use crate::{Log, LogRefusal};
 use demi_core::MemDisk;
 use std::alloc::Global;

@@ -1,4 +1,4 @@
-use Rattle.std.proofs.Common.{◌<◌, length, ap, arith}
+use Rattle.std.proofs.Common.{length, ap, arith}
 use Rattle.demi_logq.specs.Logged.{Logged}
 use Rattle.demi_logq.proofs.Pieces.{count_is}
 use Rattle.demi_logq.proofs.appending.append_array.Goals as goal

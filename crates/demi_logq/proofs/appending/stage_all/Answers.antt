@@ -1,4 +1,4 @@
-use Rattle.std.proofs.Common.{◌≡◌, ℕ, ◌+◌, ◌<◌, ◌≤◌, List, ◌++◌, length, take, ap, sym, ◌∙◌, subst, arith, take_all, refl}
+use Rattle.std.proofs.Common.{◌≡◌, ℕ, ◌<◌, List, ◌++◌, length, ap, sym, ◌∙◌, subst, arith, take_all}
 use Rattle.std.proofs.lemmas.List.{length-take-le}
 use Rattle.demi_heap.specs.Seen.{HalfValue}
 use Rattle.demi_sga.specs.Arrays.{byte_count, part_of}

@@ -1,7 +1,6 @@
-use Rattle.std.proofs.Common.{◌≡◌, ◌≢◌, ◌+◌, ◌-◌, ◌<◌, ◌≤◌, ℕ, length, take, drop, arith, ◌∙◌, sym, ap, subst, inl, inr, ◌⊎◌, Option, List, not, true, min, ◌++◌, ◌∷◌, []}
-use Rattle.std.specs.Prelude.{IfSome, Err, bytes_eq}
-use Rattle.std.specs.Int.{w32, from_be_bytes}
-use Rattle.demi_spec.specs.LogText.{header, entries}
+use Rattle.std.proofs.Common.{◌≡◌, ◌+◌, ◌-◌, ◌<◌, length, arith, ◌∙◌, sym, ap, subst, inl, inr, ◌⊎◌, not, true, min, ◌++◌, ◌∷◌, []}
+use Rattle.std.specs.Prelude.{bytes_eq}
+use Rattle.demi_spec.specs.LogText.{header}
 use Rattle.demi_logq.proofs.Places.{no_header, short_field, wrong_field, entry_found, bad_at, told_as}
 use Rattle.demi_logq.specs.Reading.{IsAhead}
 use Rattle.demi_logq.proofs.find.find_entries.Goals as goal

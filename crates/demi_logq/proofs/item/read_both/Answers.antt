@@ -1,4 +1,4 @@
-use Rattle.std.proofs.Common.{◌≡◌, ◌+◌, ℕ, List, [], length, take, drop, get_or, ap, sym, subst, Option, arith}
+use Rattle.std.proofs.Common.{◌≡◌, ℕ, List, [], length, take, drop, get_or, ap, sym, subst, Option}
 use Rattle.std.specs.Prelude.{IfSome}
 use Rattle.demi_logq.specs.Logged.{Logged, Holds}
 use Rattle.demi_logq.proofs.Pieces.{both_parts, on_ok}

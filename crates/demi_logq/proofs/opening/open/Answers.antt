@@ -1,4 +1,4 @@
-use Rattle.std.proofs.Common.{◌≡◌, ◌+◌, ◌<◌, ℕ, [], arith, ◌∙◌, ap, refl, sym, subst}
+use Rattle.std.proofs.Common.{◌≡◌, ◌+◌, arith, ◌∙◌, ap, sym, subst}
 use Rattle.std.specs.Io.KnownBytes.{append_known}
 use Rattle.demi_spec.specs.LogText.{header}
 use Rattle.demi_logq.specs.Logged.{Found}

@@ -1,4 +1,4 @@
-use Rattle.std.proofs.Common.{◌≡◌, ◌+◌, ◌-◌, ◌≤◌, ℕ, length, take, drop, arith, ◌∙◌, length-drop, length-append}
+use Rattle.std.proofs.Common.{ℕ, arith, ◌∙◌, length-drop, length-append}
 use Rattle.std.proofs.lemmas.List.{length-take}
 use Rattle.demi_logq.proofs.ReadOn.{more_read}
 use Rattle.demi_logq.proofs.reading.read_full.Goals as goal

@@ -1,4 +1,4 @@
-use Rattle.std.proofs.Common.{◌≡◌, ◌≤◌, ℕ, [], length, ap, sym, subst, arith, refl}
+use Rattle.std.proofs.Common.{sym, subst, arith, refl}
 use Rattle.std.specs.Prelude.{None}
 use Rattle.demi_logq.specs.Logged.{Holds}
 use Rattle.demi_logq.specs.Engine.{IsServed, PastValue, payloads_in, stands_now}

@@ -1,8 +1,7 @@
-use Rattle.std.proofs.Common.{◌≡◌, ℕ, List, [], ◌∷◌, ◌++◌, length, ap, sym, ◌∙◌, subst, refl}
-use Rattle.demi_logq.specs.declared.out.LogOut.{LogOut}
+use Rattle.std.proofs.Common.{◌≡◌, [], ◌∷◌, length, ap, sym, ◌∙◌, subst, refl}
 use Rattle.demi_logq.specs.Answers.{LogBasis}
 use Rattle.demi_logq.specs.Folding.{Standing}
-use Rattle.demi_logq.specs.Engine.{EngineValue, GoesTo, IsServed, PastValue, stands_now}
+use Rattle.demi_logq.specs.Engine.{EngineValue, GoesTo, IsServed, PastValue}
 use Rattle.demi_logq.specs.Queues.{Shows}
 use Rattle.demi_logq.proofs.Pasts.{after, comes_on, one_added, past_on, served_on, shows_on}
 use Rattle.demi_logq.proofs.Steps.{none_pends}

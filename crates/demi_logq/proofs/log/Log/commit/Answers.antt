@@ -1,5 +1,5 @@
-use Rattle.std.proofs.Common.{◌≡◌, ◌+◌, ◌-◌, ◌<◌, ◌≤◌, ℕ, List, [], ◌∷◌, ◌++◌, length, take, drop, get_or, true, false, arith, ap, sym, ◌∙◌, subst, Option, rules, refl, length-drop, vec_len}
-use Rattle.std.specs.Prelude.{IfSome, IsOk, vec_capacity}
+use Rattle.std.proofs.Common.{◌≡◌, ◌+◌, ◌-◌, ◌<◌, ◌≤◌, ℕ, List, [], ◌∷◌, ◌++◌, length, drop, true, false, arith, ap, sym, ◌∙◌, subst, rules, length-drop, vec_len}
+use Rattle.std.specs.Prelude.{vec_capacity}
 use Rattle.std.specs.Io.KnownBytes.{append_known}
 use Rattle.std.proofs.lemmas.List.{length-take}
 use Rattle.demi_core.specs.Outside.{GrowsByFront, Rose}

@@ -1,5 +1,5 @@
-use Rattle.std.proofs.Common.{◌≡◌, ◌≢◌, ℕ, ◌+◌, ◌<◌, ◌≤◌, List, [], length, get_or, ap, sym, ◌∙◌, subst, arith, refl}
-use Rattle.std.specs.Prelude.{Bool, Option, Some, None, option_map}
+use Rattle.std.proofs.Common.{ℕ, ◌+◌, List, [], get_or, ap, sym, ◌∙◌, subst, arith, refl}
+use Rattle.std.specs.Prelude.{Bool, Option, option_map}
 use Rattle.demi_heap.specs.Seen.{HeapId}
 use Rattle.demi_port_core.specs.declared.place.Place.{Place}
 use Rattle.demi_logq.specs.Logged.{Logged, Holds}

@@ -1,10 +1,10 @@
-use Rattle.std.proofs.Common.{◌≡◌, ℕ, ◌<◌, ◌≤◌, List, [], ◌∷◌, ◌++◌, length, take, ap, sym, ◌∙◌, subst, arith, refl, length-append}
+use Rattle.std.proofs.Common.{◌≡◌, ℕ, List, [], ◌∷◌, ap, sym, ◌∙◌, subst, arith, refl, length-append}
 use Rattle.std.proofs.Common.{inl, inr}
-use Rattle.std.specs.Prelude.{Option, Some, None, Result, Err, option_map}
+use Rattle.std.specs.Prelude.{Result, Err, option_map}
 use Rattle.demi_heap.specs.Seen.{PassValue}
 use Rattle.demi_port_core.specs.declared.place.Place.{Place}
 use Rattle.demi_spec.specs.LogText.{entry}
-use Rattle.demi_logq.specs.Logged.{Logged, Holds}
+use Rattle.demi_logq.specs.Logged.{Logged}
 use Rattle.demi_logq.specs.Folding.{bytes_of}
 use Rattle.demi_logq.specs.Calls.{Committed}
 use Rattle.demi_logq.specs.Queues.{Shows}

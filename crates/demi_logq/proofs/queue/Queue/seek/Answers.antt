@@ -1,5 +1,5 @@
-use Rattle.std.proofs.Common.{◌≡◌, ℕ, ◌<◌, ◌≤◌, length, ap, sym, ◌∙◌, arith, refl}
-use Rattle.std.specs.Prelude.{Option, Some, None, option_map}
+use Rattle.std.proofs.Common.{◌≤◌, length, ap, sym, ◌∙◌, arith, refl}
+use Rattle.std.specs.Prelude.{option_map}
 use Rattle.demi_port_core.specs.declared.place.Place.{Place}
 use Rattle.demi_logq.proofs.Saying.{payloads_count, bad_seek, sought}
 use Rattle.demi_logq.proofs.queue.Queue.seek.Goals as goal

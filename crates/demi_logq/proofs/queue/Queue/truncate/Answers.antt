@@ -1,5 +1,5 @@
-use Rattle.std.proofs.Common.{◌≡◌, ℕ, ◌<◌, ◌≤◌, List, length, take, min, ap, sym, ◌∙◌, subst, arith, refl}
-use Rattle.std.specs.Prelude.{Option, Some, None, Result, Err, option_map}
+use Rattle.std.proofs.Common.{◌≡◌, ℕ, ◌≤◌, length, take, min, ap, sym, ◌∙◌, subst, arith, refl}
+use Rattle.std.specs.Prelude.{Result, Err, option_map}
 use Rattle.demi_port_core.specs.declared.place.Place.{Place}
 use Rattle.demi_logq.specs.Logged.{Logged, place_of}
 use Rattle.std.proofs.lemmas.List.{length-take-le}
