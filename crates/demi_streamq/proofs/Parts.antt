@@ -4,7 +4,7 @@ use Rattle.std.specs.Prelude.{ltb}
 use Rattle.std.specs.Io.KnownBytes.{append_known}
 use Rattle.std.proofs.lemmas.Bool.Decides.{nat_tests}
 use Rattle.std.proofs.lemmas.List.{drop-append-le, take-append-le}
-use Rattle.std.proofs.Math.Seq.{drop-append-add, drop-append_seam, take-add, take-length}
+use Rattle.std.proofs.Math.Seq.{drop-append-add, drop-append_seam, take-add}
 use Rattle.demi_heap.specs.Seen.{HalfValue}
 use Rattle.demi_sga.specs.Arrays.{byte_count, part_of}
 use Rattle.demi_streamq.specs.Sending.{array_bytes, IsPart}

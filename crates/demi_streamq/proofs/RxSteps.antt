@@ -1,22 +1,21 @@
 -- What a receiving engine keeps, one operation further.
-use Rattle.std.proofs.Common.{◌≡◌, ◌≢◌, ℕ, zero, suc, ◌+◌, ◌-◌, ◌<◌, ◌≤◌, List, [], ◌∷◌, ◌++◌, length, take, Option, Some, None, Bool, true, false, cond, refl, sym, ap, ◌∙◌, arith, subst, length-append, append_assoc}
-use Rattle.std.specs.Prelude.{◌==◌, ltb, slice_get}
+use Rattle.std.proofs.Common.{◌≡◌, ◌≢◌, ℕ, ◌+◌, ◌<◌, ◌≤◌, List, [], ◌∷◌, ◌++◌, length, take, Option, Some, None, Bool, true, false, cond, refl, sym, ap, ◌∙◌, arith, subst, length-append, append_assoc}
+use Rattle.std.specs.Prelude.{ltb, slice_get}
 use Rattle.std.proofs.Math.Seq.{take-append_seam}
-use Rattle.std.proofs.lemmas.Bool.Decides.{nat_tests}
 use Rattle.demi_port_core.specs.declared.place.Place.{Place}
-use Rattle.demi_port_core.specs.Trails.{MayTell, told_at as telling}
+use Rattle.demi_port_core.specs.Trails.{told_at as telling}
 use Rattle.demi_port_core.specs.History.{Each}
-use Rattle.demi_device.specs.Serving.{first_stop, trail, places, above, Comes, AllCome}
+use Rattle.demi_device.specs.Serving.{first_stop, trail, places, above, AllCome}
 use Rattle.demi_streamq.specs.declared.rx_op.RxOp.{RxOp}
 use Rattle.demi_streamq.specs.declared.rx_out.RxOut.{RxOut}
 use Rattle.demi_streamq.specs.declared.rx_op.RxOp.TheVariants.{Pop, Stop}
-use Rattle.demi_streamq.specs.declared.rx_out.RxOut.TheVariants.{Piece, End, Fault, Broken, NoSlot, Stopped, Halted}
+use Rattle.demi_streamq.specs.declared.rx_out.RxOut.TheVariants.{End, Fault, Broken, NoSlot, Stopped, Halted}
 use Rattle.demi_streamq.specs.declared.rx_told.RxTold.{RxTold}
 use Rattle.demi_streamq.specs.declared.rx_told.RxTold.TheVariants.{Bytes, AtEnd, Failed, Refused}
 use Rattle.demi_streamq.specs.Receiving.{IsFrom, is_stop, told, at, over, over_by, told_at, bytes_in, bytes_before, IsRead, RxAnswer, RxAdmits}
 use Rattle.demi_heap.specs.Seen.{HeapId}
 use Rattle.demi_streamq.specs.RxSteady.{append_none}
-use Rattle.demi_streamq.proofs.Orders.{or, low, not_low, same, differs, Lows, lows_of, trail_more, told_past, told_here, or_none, stop_append, order_more, get_last, fresh, none_above, may_tell}
+use Rattle.demi_streamq.proofs.Orders.{or, low, not_low, Lows, lows_of, trail_more, told_past, told_here, or_none, stop_append, order_more, get_last, fresh, none_above, may_tell}
 use Rattle.demi_streamq.specs.RxKept.{InOrder, over_of, RxKept}
 
 by_or : (e : RxTold) (k : ℕ) (a b : Option RxOut) → over_by e k (or a b) ≡ or (over_by e k a) b

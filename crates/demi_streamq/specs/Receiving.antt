@@ -1,5 +1,5 @@
 -- What a receiving port answers, by its history and by what its outcomes told.
-use Rattle.std.specs.Prelude.{◌≡◌, ℕ, zero, suc, ◌+◌, ◌≤◌, List, [], ◌∷◌, ◌++◌, length, take, Option, Some, None, Bool, true, false, ◌==◌, ltb, cond, slice_get}
+use Rattle.std.specs.Prelude.{◌≡◌, ℕ, ◌≤◌, List, [], ◌∷◌, ◌++◌, length, take, Option, Some, None, Bool, true, false, ◌==◌, ltb, cond, slice_get}
 use Rattle.demi_port_core.specs.declared.place.Place.{Place}
 use Rattle.demi_device.specs.Serving.{first_stop}
 use Rattle.demi_heap.specs.Seen.{HeapId}

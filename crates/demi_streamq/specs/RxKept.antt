@@ -1,5 +1,5 @@
 -- What a receiving engine keeps beside its source.
-use Rattle.std.specs.Prelude.{◌≡◌, ℕ, ◌+◌, ◌≤◌, ◌<◌, List, [], ◌∷◌, ◌++◌, length, Option, Some, None, Bool, true, false, ◌⊎◌, IfSome}
+use Rattle.std.specs.Prelude.{◌≡◌, ℕ, ◌+◌, List, [], ◌∷◌, ◌++◌, length, Option, Some, None, Bool, true, false, ◌⊎◌, IfSome}
 use Rattle.demi_port_core.specs.declared.place.Place.{Place}
 use Rattle.demi_device.specs.Serving.{first_stop, trail}
 use Rattle.demi_streamq.specs.declared.rx_op.RxOp.{RxOp}

@@ -1,15 +1,14 @@
 -- What is admitted stays as it is.
 use mathlib.Core.Logic.{◌↔◌}
-use Rattle.std.specs.Prelude.{◌≡◌, ℕ, zero, suc, ◌+◌, ◌<◌, List, [], ◌∷◌, ◌++◌, length, take, Option, Some, None, Bool, true, false, ◌==◌, ltb, cond, slice_get, refl}
-use Rattle.std.proofs.Common.{sym, ap, ◌∙◌, arith, subst, append_assoc}
+use Rattle.std.specs.Prelude.{◌≡◌, ℕ, zero, suc, ◌<◌, List, [], ◌∷◌, ◌++◌, take, Option, Some, None, false, ◌==◌, ltb, cond, slice_get, refl}
+use Rattle.std.proofs.Common.{sym, ap, ◌∙◌, arith, subst}
 use Rattle.std.proofs.lemmas.Bool.Decides.{nat_tests}
 use Rattle.demi_port_core.specs.History.{AllAbove}
-use Rattle.demi_device.specs.Serving.{first_stop}
 use Rattle.demi_streamq.specs.declared.rx_op.RxOp.{RxOp}
 use Rattle.demi_streamq.specs.declared.rx_out.RxOut.{RxOut}
 use Rattle.demi_streamq.specs.declared.rx_told.RxTold.{RxTold}
 use Rattle.demi_heap.specs.Seen.{HeapId}
-use Rattle.demi_streamq.specs.Receiving.{IsFrom, is_stop, over, over_by, told_at, bytes_in, bytes_before, RxAnswer, RxAdmits}
+use Rattle.demi_streamq.specs.Receiving.{IsFrom, over, over_by, told_at, bytes_in, bytes_before, RxAnswer, RxAdmits}
 
 pub not_below : (a p : ℕ) → p < a → ltb a p ≡ false
 not_below a p lt = grind (arith, nat_tests)

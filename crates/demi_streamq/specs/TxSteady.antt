@@ -1,14 +1,12 @@
 -- What is admitted at a sending port stays as it is.
 use mathlib.Core.Logic.{◌↔◌}
-use Rattle.std.specs.Prelude.{◌≡◌, ℕ, ◌<◌, List, [], ◌∷◌, ◌++◌, take, Option, Some, None, Bool, true, false, ltb, cond, slice_get, refl}
+use Rattle.std.specs.Prelude.{◌≡◌, ℕ, List, [], ◌∷◌, ◌++◌, Option, Some, None, Bool, ltb, cond, slice_get, refl}
 use Rattle.std.proofs.Common.{sym, ap, ◌∙◌}
 use Rattle.demi_port_core.specs.History.{AllAbove}
-use Rattle.demi_device.specs.Serving.{first_stop}
 use Rattle.demi_streamq.specs.declared.tx_op.TxOp.{TxOp}
 use Rattle.demi_streamq.specs.declared.tx_out.TxOut.{TxOut}
-use Rattle.demi_streamq.specs.Receiving.{told_at}
 use Rattle.demi_streamq.specs.RxSteady.{both, got_append, not_below, take_got, told_same}
-use Rattle.demi_streamq.specs.Sending.{broken_at, has_close, is_stop, TxAnswer, TxAdmits}
+use Rattle.demi_streamq.specs.Sending.{broken_at, TxAnswer, TxAdmits}
 
 broken_later : (p : ℕ) (later : List (ℕ × ℕ)) → AllAbove p later → broken_at p later ≡ None
 broken_later p [] all = refl

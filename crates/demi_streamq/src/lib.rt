@@ -1,10 +1,14 @@
-//! Queues over sources and sinks: what is read from a link comes by place as pieces.
+//! Queues over sources and sinks: what is read from a link comes by place as pieces, and what is pushed is written by place.
 //!
-//! `RxOp` and `RxOut` are the operations on a receiving port and what they come to, and `RxLaw` is its law. A pop reads its
-//! source once, into a page of the heap, and no byte is copied above the source.
-//! The layer above may rely on this: the pieces by place, joined, are the bytes that the source gave; an end, a fault and a
-//! missing slot are told only with their cause; and after them, as after a stop, the source is not read.
-//! Not promised: how many bytes a piece has, but that it has one and no more than were asked.
+//! `RxOp` and `RxOut` are the operations on a receiving port and what they come to, `RxLaw` is its law, and `RxEngine` serves it: a
+//! pop reads its source once, into a page of the heap itself. `TxOp`, `TxOut`, `TxLaw` and `TxEngine` are the same of a sending
+//! port: a push writes its segments from the device halves themselves, the rest of each with the next one where there is one.
+//! The layer above may rely on this: the pieces by place, joined, are the bytes that the source gave, and the bytes that were
+//! written are those of the pushes by place, of a failed one just as many as its outcome says. An end, a fault and a missing
+//! slot are told only with their cause, and after an end, a fault or a stop nothing is read or written. What an engine did over
+//! some calls is its `goes`: which reads were made, which bytes were given and written, and what the heap pass has claimed and ended.
+//! Not promised: how many bytes a piece has, but that it has one and no more than were asked; how many bytes one write takes; and
+//! how long a read or a write waits. No call takes memory.
 #![tactic(auto)]
 
 mod base;

@@ -1,13 +1,15 @@
 mod receiving;
+mod sending;
 
 ghost use Rattle.std.specs.Prelude.{◌≡◌};
 
-use crate::RxOp;
-use demi_core::MemSource;
+use crate::{RxOp, TxOp};
+use demi_core::{MemSink, MemSource};
 use receiving::{
     Got, answer, answer_four, ask, ask_four, device_on, end, free_at_end, port_on, take_page, turn,
     two_passes,
 };
+use sending::Sent;
 use std::test::Fail;
 
 // Four pops of at most four bytes each, and a stop.
@@ -88,5 +90,84 @@ fn a_pop_reads_once_a_page_is_free_again(rt: HostRuntime) -> Result<(), Fail> {
         ]
     );
     assert_eq!(rt; free, 1);
+    Ok(())
+}
+
+#[test]
+fn a_failed_push_breaks_the_port(rt: HostRuntime) -> Result<(), Fail> {
+    let Ok(sink) = MemSink::make(rt.alloc(), 64, 2, [1].to_vec(rt.alloc())?) else {
+        return Err(Fail::from("no memory"));
+    };
+    let (heap, mine, mut app) = sending::small_heap(&rt, rt.alloc());
+    let (port, mut passes, seat) = sending::port_on(&rt, rt.alloc(), &heap);
+    let mut device = sending::device_on(&rt, rt.alloc(), &heap, mine, sink, seat);
+    let pass = &mut passes[0];
+    let first = sending::push(&rt, &heap, &mut app, &port, pass, b"ab", b"", b"c");
+    let second = sending::push(&rt, &heap, &mut app, &port, pass, b"d", b"", b"");
+    let close = sending::ask(&rt, &port, pass, TxOp::Close);
+    let stop = sending::ask(&rt, &port, pass, TxOp::Stop);
+    let _four = sending::turn(&mut device, &port);
+    let late = sending::push(&rt, &heap, &mut app, &port, pass, b"e", b"", b"");
+    let _one = sending::turn(&mut device, &port);
+    let outs = [
+        sending::answer(&rt, &port, pass, first),
+        sending::answer(&rt, &port, pass, second),
+        sending::answer(&rt, &port, pass, close),
+        sending::answer(&rt, &port, pass, stop),
+        sending::answer(&rt, &port, pass, late),
+    ];
+    let (sink, mine) = sending::end(&rt, &heap, port, device, passes);
+    let free = free_at_end(&rt, rt.alloc(), heap, mine, app);
+    assert_eq!(rt;
+        outs,
+        [
+            Sent::Fault(2),
+            Sent::Broken(0),
+            Sent::Broken(0),
+            Sent::Halted,
+            Sent::Stopped(3)
+        ]
+    );
+    assert_eq!(rt; sink.bytes(), b"ab".as_slice());
+    assert_eq!(rt; free, 8);
+    Ok(())
+}
+
+#[test]
+fn a_closed_port_takes_no_push(rt: HostRuntime) -> Result<(), Fail> {
+    let Ok(sink) = MemSink::make(rt.alloc(), 64, 2, [].to_vec(rt.alloc())?) else {
+        return Err(Fail::from("no memory"));
+    };
+    let (heap, mine, mut app) = sending::small_heap(&rt, rt.alloc());
+    let (port, mut passes, seat) = sending::port_on(&rt, rt.alloc(), &heap);
+    let mut device = sending::device_on(&rt, rt.alloc(), &heap, mine, sink, seat);
+    let pass = &mut passes[0];
+    let first = sending::push(&rt, &heap, &mut app, &port, pass, b"", b"abc", b"de");
+    let close = sending::ask(&rt, &port, pass, TxOp::Close);
+    let second = sending::push(&rt, &heap, &mut app, &port, pass, b"f", b"", b"");
+    let again = sending::ask(&rt, &port, pass, TxOp::Close);
+    let stop = sending::ask(&rt, &port, pass, TxOp::Stop);
+    let _five = sending::turn(&mut device, &port);
+    let outs = [
+        sending::answer(&rt, &port, pass, first),
+        sending::answer(&rt, &port, pass, close),
+        sending::answer(&rt, &port, pass, second),
+        sending::answer(&rt, &port, pass, again),
+        sending::answer(&rt, &port, pass, stop),
+    ];
+    let (sink, mine) = sending::end(&rt, &heap, port, device, passes);
+    let free = free_at_end(&rt, rt.alloc(), heap, mine, app);
+    assert_eq!(rt;
+        outs,
+        [
+            Sent::Pushed,
+            Sent::Shut,
+            Sent::Closed,
+            Sent::Closed,
+            Sent::Halted
+        ]
+    );
+    assert_eq!(rt; sink.bytes(), b"abcde".as_slice());
+    assert_eq!(rt; free, 8);
     Ok(())
 }

@@ -1,5 +1,5 @@
-use Rattle.std.proofs.Common.{◌≡◌, sym, subst, arith}
-use Rattle.demi_sga.specs.Arrays.{byte_count, part_of}
+use Rattle.std.proofs.Common.{sym, subst, arith}
+use Rattle.demi_sga.specs.Arrays.{byte_count}
 use Rattle.demi_streamq.specs.Sending.{array_bytes, IsPart}
 use Rattle.demi_streamq.proofs.Parts.{part_is}
 use Rattle.demi_streamq.proofs.tx_writing.rest_of.Goals as goal

@@ -1,4 +1,4 @@
-use Rattle.std.proofs.Common.{◌≡◌, ◌+◌, ap, refl, sym, ◌∙◌, length, arith}
+use Rattle.std.proofs.Common.{◌+◌, ap, refl, arith}
 use Rattle.demi_streamq.proofs.RxSteps.{rx_stopped, rx_halted, rx_end_again, rx_broken, rx_end, rx_fault, rx_piece, rx_refused}
 use Rattle.demi_streamq.proofs.rx_answering.RxState.answer.Goals as goal
 

@@ -1,4 +1,4 @@
-use Rattle.std.proofs.Common.{◌≡◌, ◌++◌, ◌∷◌, [], false, refl, ap, sym, ◌∙◌, subst, length}
+use Rattle.std.proofs.Common.{◌≡◌, ◌++◌, ◌∷◌, [], false, ap, sym, ◌∙◌, subst, length}
 use Rattle.demi_device.specs.Serving.{AllCome, places, trail}
 use Rattle.demi_streamq.specs.Receiving.{IsFrom, told, RxAdmits}
 use Rattle.demi_streamq.specs.RxGoing.{ended_append}

@@ -1,6 +1,6 @@
-use Rattle.std.proofs.Common.{◌≡◌, ap, refl, sym, ◌∙◌, length}
-use Rattle.demi_streamq.specs.declared.tx_op.TxOp.TheVariants.{Push, Close, Stop}
-use Rattle.demi_streamq.proofs.TxSteps.{tx_stopped, tx_broken, tx_closed, tx_shut, tx_halted, tx_pushed, tx_fault}
+use Rattle.std.proofs.Common.{ap}
+use Rattle.demi_streamq.specs.declared.tx_op.TxOp.TheVariants.{Stop}
+use Rattle.demi_streamq.proofs.TxSteps.{tx_stopped, tx_halted}
 use Rattle.demi_streamq.proofs.tx_answering.TxState.halt.Goals as goal
 
 pub returns-in-Some-clause-kept : goal.returns-in-Some-clause-kept

@@ -1,4 +1,4 @@
-use Rattle.std.proofs.Common.{◌≡◌, ap, refl, sym, ◌∙◌, length}
+use Rattle.std.proofs.Common.{ap, refl}
 use Rattle.demi_streamq.specs.declared.tx_op.TxOp.TheVariants.{Push}
 use Rattle.demi_streamq.proofs.TxSteps.{tx_stopped, tx_broken, tx_closed, tx_pushed, tx_fault}
 use Rattle.demi_streamq.proofs.tx_answering.TxState.push.Goals as goal

@@ -1,4 +1,4 @@
-use Rattle.std.proofs.Common.{◌≡◌, ◌++◌, ◌∷◌, [], refl, ap, sym, ◌∙◌, subst, length}
+use Rattle.std.proofs.Common.{◌≡◌, ◌++◌, ◌∷◌, [], ap, sym, ◌∙◌, subst, length}
 use Rattle.demi_device.specs.Serving.{AllCome, places, trail}
 use Rattle.demi_streamq.specs.Sending.{told, TxAdmits}
 use Rattle.demi_streamq.proofs.TxSteps.{tx_comes, tx_none}
