@@ -6,7 +6,8 @@
 //! it finds a listener and wakes it; else what was made came before that load, so before the sleeper's last look, which
 //! finds it.
 //!
-//! Nothing is promised by a clause: a bell says only that it is worth while to look. A sleep may end for no reason, and
+//! No clause speaks of a wake: a bell says only that it is worth while to look. A patience says how many looks in a row
+//! were in vain. A sleep may end for no reason, and
 //! how soon a woken thread runs is the system's.
 #![tactic(auto)]
 
