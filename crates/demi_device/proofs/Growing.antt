@@ -5,6 +5,7 @@ use Rattle.demi_port_core.specs.Trails.{StartsWith}
 use Rattle.demi_port.proofs.Devices.{starts_more}
 use Rattle.demi_device.specs.Holding.{TookIn}
 use Rattle.demi_device.specs.Turning.{Grows, LastFound, LookedLast}
+use Rattle.demi_port_core.specs.Words.{bells_word}
 
 pub starts_same : {A : Type 0} (xs ys : List A) → xs ≡ ys → StartsWith xs ys
 starts_same xs ys e = ([], e ∙ sym (append-nil ys))
@@ -27,7 +28,7 @@ module _ {D T U B : Type 0} where
   pub grows_took : (f : List (ℕ × U)) (v w : DeviceValue D T B) → TookIn v w → Grows f f v w
   grows_took f v w took = let e = took.4 in record {
     clock = let k = ap (λ z. z.clock) e in let le = took.3 in omega arith;
-    looks = (((took.0, (1, took.1)) ∷ []), ap (λ z. z.looks) e);
+    looks = (((took.0, (bells_word, took.1)) ∷ []), ap (λ z. z.looks) e);
     fetched = (took.2, ap (λ z. z.fetched) e);
     outcomes = starts_same f f refl;
     finished = starts_same w.finished v.finished (ap (λ z. z.finished) e);

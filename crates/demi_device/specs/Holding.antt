@@ -9,6 +9,7 @@ use Rattle.demi_port_core.specs.declared.place.Token.{Token}
 use Rattle.demi_device.specs.declared.early.Early.{Early}
 use Rattle.demi_device.specs.Serving.{AllAdmitted, EachMayPend, HasStop, NonePends, RiseFrom, places, trail}
 use Rattle.demi_device.specs.Turning.{NoBell}
+use Rattle.demi_port_core.specs.Words.{bells_word}
 
 -- the port's seat, and how many operations were given to the engine
 pub record InboxValue (D T B : Type 0) : Type 0 where
@@ -25,7 +26,7 @@ FetchedMore {D} v w = (more : List (ℕ × (ℕ × D))) × (w ≡ record v { ran
 
 -- the doorbells were taken, and further operations were fetched
 abbrev pub TookIn : {D T B : Type 0} → DeviceValue D T B → DeviceValue D T B → Type 0
-TookIn {D} v w = (t : ℕ) × (n : ℕ) × (more : List (ℕ × (ℕ × D))) × (v.clock ≤ t) × (w ≡ record v { clock = t + 1; looks = v.looks ++ (t, (1, n)) ∷ []; rang = w.rang; fetched = v.fetched ++ more })
+TookIn {D} v w = (t : ℕ) × (n : ℕ) × (more : List (ℕ × (ℕ × D))) × (v.clock ≤ t) × (w ≡ record v { clock = t + 1; looks = v.looks ++ (t, (bells_word, n)) ∷ []; rang = w.rang; fetched = v.fetched ++ more })
 
 -- the operation of the place p was finished, and `told` is what its outcome told
 abbrev pub OnlyFinished : {D T B : Type 0} → ℕ → List (ℕ × T) → DeviceValue D T B → DeviceValue D T B → Type 0

@@ -7,6 +7,7 @@ use Rattle.demi_port_core.specs.Trails.{StartsWith}
 use Rattle.demi_device.specs.Serving.{AllAdmitted, HasStop, RiseFrom, places, trail}
 use Rattle.demi_device.specs.declared.turn.Turn.{Turn}
 use Rattle.demi_device.specs.declared.turn.Turn.TheVariants.{Served, Idle, Ended}
+use Rattle.demi_port_core.specs.Words.{bells_word}
 
 -- an engine, and the seat of its port's device
 pub record WholeDevice (E D T B : Type 0) : Type 0 where
@@ -23,7 +24,7 @@ NoBell c n = (i : ℕ) → i < c → i < 64 → bit_at n i ≡ 0
 
 -- the last look of a call that brought the seat from v to w was at the doorbells, and F holds of what it found there
 abbrev pub LastFound : {D T B : Type 0} → DeviceValue D T B → DeviceValue D T B → (ℕ → Type 0) → Type 0
-LastFound v w F = (before : List (ℕ × (ℕ × ℕ))) × (t : ℕ) × (n : ℕ) × (v.clock ≤ t) × (w.looks ≡ before ++ (t, (1, n)) ∷ []) × F n
+LastFound v w F = (before : List (ℕ × (ℕ × ℕ))) × (t : ℕ) × (n : ℕ) × (v.clock ≤ t) × (w.looks ≡ before ++ (t, (bells_word, n)) ∷ []) × F n
 
 -- it looked at the doorbells in that call
 abbrev pub LookedLast : {D T B : Type 0} → DeviceValue D T B → DeviceValue D T B → Type 0

@@ -15,6 +15,7 @@ use mathlib.Core.Option.{some}
 use lib.ListN.{get_elem?}
 use Rattle.demi_port_core.specs.Trails.{StartsWith}
 use Rattle.demi_port.specs.declared.key.Key.{Key}
+use Rattle.demi_port_core.specs.Words.{token_word}
 
 -- which port: its token table, and its base with its record table
 pub record PortId (B : Type 0) : Type 0 where
@@ -128,7 +129,7 @@ Saw v w k n = (t : ℕ) × (q : ℕ) × (v.clock ≤ t) × (get_elem? w.looks q 
 
 -- why the pass did not get the token i: it was not free, was worn, or had another word than the pass had just found
 abbrev pub Missed : {D T B : Type 0} → PassValue D T B → PassValue D T B → ℕ → Type 0
-Missed v w i = (n : ℕ) × Saw v w (i + 3) n × (((n % 8 ≢ 0) ⊎ (last_round ≤ n / 8)) ⊎ ((m : ℕ) × Saw v w (i + 3) m × (m ≢ n)))
+Missed v w i = (n : ℕ) × Saw v w (token_word i) n × (((n % 8 ≢ 0) ⊎ (last_round ≤ n / 8)) ⊎ ((m : ℕ) × Saw v w (token_word i) m × (m ≢ n)))
 
 -- a pass that has done nothing
 abbrev pub IsNewPass : {D T B : Type 0} → PortId B → ℕ → PassValue D T B → Type 0
@@ -141,7 +142,7 @@ known_by p = record { device = false; heard = p.heard; told = p.trail; floor = p
 -- at a step of a call that brought the pass from v to w, it found a word of the token's index, of which F holds. Nothing else changed, but that a look at a token that is not done pays what the pass owed of it
 abbrev pub Found : {D T B : Type 0} → PassValue D T B → PassValue D T B → ℕ → (ℕ → Type 0) → Type 0
 Found v w token F = (t : ℕ) × (n : ℕ) × (v.clock ≤ t) × F n
-    × (w ≡ record v { clock = t + 1; looks = v.looks ++ (t, (token % 1024 + 3, n)) ∷ []; owes = cond (n % 8 == 2) v.owes (clear (token % 1024) v.owes) })
+    × (w ≡ record v { clock = t + 1; looks = v.looks ++ (t, (token_word (token % 1024), n)) ∷ []; owes = cond (n % 8 == 2) v.owes (clear (token % 1024) v.owes) })
 
 -- no wake is owed
 abbrev pub NoneOwed : ℕ → Type 0

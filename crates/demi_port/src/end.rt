@@ -74,7 +74,11 @@ impl<L: Law> Port<L> {
         ensures behind { Each (λ p. Behind (known_at result) (known_by p)) passes.items }
     {
         let (pair, key) = seat.into_parts();
-        let Port { tables } = self;
+        let Port {
+            tables,
+            device: _,
+            callers: _,
+        } = self;
         let (tickets, pair) = tables.close(pair, passes);
         PortEnd { tickets, pair, key }
     }

@@ -13,11 +13,11 @@ use crate::plays::{Aim, Aimed, Copied, Finished, Opens, Woke};
 use crate::port::Port;
 use crate::tables::{SeatPair, Tables};
 use atomic_table::Badge;
-use demi_port_core::{Law, Slip, Token, Trail};
+use demi_port_core::{FIRST_TOKEN, Law, Slip, TOKEN_STEP, Token, Trail, WAKERS};
 use std::marker::Brand;
 
 impl<L: Law> Port<L> {
-    /// The outcome of an operation that was fetched and not finished. Afterwards its token is done, and its waker bit was set.
+    /// The outcome of an operation that was fetched and not finished. Afterwards its token is done, its waker bit was set, and who sleeps at the port's bells is woken.
     /// Where the outcome tells something, no greater place was finished. It is admitted by the operations of the first places, as long as each was fetched, and by what was told with what it tells.
     pub fn finish(&self, seat: &mut DeviceSeat<L>, token: Token, out: L::Out)
         requires port { seat.old.port ≡ self.now }
@@ -26,6 +26,7 @@ impl<L: Law> Port<L> {
         ensures woken { NoneOwed seat.new.owes }
     {
         self.tables.finish(&mut seat.pair, token.0, out);
+        self.callers.ring();
     }
 }
 
@@ -79,9 +80,11 @@ impl<L: Law> Tables<L> {
             None => {}
             Some(_) => unreachable!(),
         }
-        self.table
-            .shared
-            .store::<Finished>(&mut seat.seat, index as usize + 3, round * 8 + 2);
+        self.table.shared.store::<Finished>(
+            &mut seat.seat,
+            index as usize * TOKEN_STEP + FIRST_TOKEN,
+            round * 8 + 2,
+        );
     }
 
     // The place of a token whose operation was fetched. Its slot is out with the device.
@@ -93,9 +96,10 @@ impl<L: Law> Tables<L> {
         ensures port { (device.new.seat.table_id ≡ device.old.seat.table_id) × (device.new.record ≡ device.old.record) }
         ensures open { (r : ℕ) (p : ℕ) → Among (index, (r, p)) device.old.seat.me.0.pending → (result ≡ p) × (device.new.seat.me ≡ (opening index r p device.old.seat.me.0, (index, None) ∷ [])) }
     {
-        self.table
-            .shared
-            .load::<Opens<L>>(&mut device.seat, index as usize + 3);
+        self.table.shared.load::<Opens<L>>(
+            &mut device.seat,
+            index as usize * TOKEN_STEP + FIRST_TOKEN,
+        );
         let slip = self
             .table
             .shared
@@ -115,7 +119,7 @@ impl<L: Law> Tables<L> {
     {
         self.table
             .shared
-            .fetch_or::<Woke>(&mut device.seat, 2, 1 << index);
+            .fetch_or::<Woke>(&mut device.seat, WAKERS, 1 << index);
     }
 
     // The outcome of an operation that was fetched and not finished. It is admitted by the ground and by the trail with what it tells.

@@ -4,6 +4,7 @@ ghost use Rattle.demi_port.specs.Seen.{FitsPass, pass_value};
 
 use crate::key::Key;
 use crate::tables::SeatPair;
+use demi_bell::Patience;
 use demi_port_core::Law;
 use std::marker::Model;
 
@@ -11,6 +12,10 @@ use std::marker::Model;
 pub struct PortPass<L: Law> {
     pub(crate) pair: SeatPair<L>,
     pub(crate) key: Key<L::Base>,
+    // The index of the token that the pass had last.
+    pub(crate) near: u32,
+    // How long it has waited.
+    pub(crate) patience: Patience,
 }
 
 impl<L: Law> Model for PortPass<L> {
@@ -28,14 +33,24 @@ impl<L: Law> PortPass<L> {
         ensures fits { FitsPass self.port.key result.record.table_id result.seat.table_id.slots result.seat.me result.record.me }
         ensures value { pass_value result.seat.table_id self.port.key result.seat.me.0 result.record.me.0 ≡ self }
     {
-        let Self { pair, key: _ } = self;
+        let Self {
+            pair,
+            key: _,
+            near: _,
+            patience: _,
+        } = self;
         pair
     }
 }
 
 impl<L: Law> Drop for PortPass<L> {
     fn drop(self) {
-        let Self { pair, key: _ } = self;
+        let Self {
+            pair,
+            key: _,
+            near: _,
+            patience: _,
+        } = self;
         let SeatPair { seat: _, record: _ } = pair;
     }
 }

@@ -1,11 +1,18 @@
 //! A port.
 use crate::tables::Tables;
+use demi_bell::{Bell, Bells};
 use demi_port_core::Law;
+use std::alloc::Global;
 use std::marker::Model;
+use std::sync::Arc;
 
 /// Tokens for operations, 1 to 64 of them. The operations stand in one history. Any number of threads may share it, each with a pass of its own.
 pub struct Port<L: Law> {
     pub(crate) tables: Tables<L>,
+    // Where the device sleeps, which a submit rings.
+    pub(crate) device: Bell,
+    // Where callers sleep, which a finish rings.
+    pub(crate) callers: Arc<Bells, Global>,
 }
 
 impl<L: Law> Model for Port<L> {

@@ -1,27 +1,61 @@
-//! How a thread waits before it tries again.
+//! How a thread waits before it looks again.
 ghost use Rattle.std.specs.Prelude.{◌≡◌};
 
 use crate::device_seat::DeviceSeat;
 use crate::pass::PortPass;
 use crate::port::Port;
+use demi_bell::{Bells, SPINS, YIELDS};
 use demi_port_core::Law;
-use std::sync::Wait;
+use std::alloc::Global;
+use std::hint::spin_loop;
+use std::sync::{Arc, Wait};
 use std::thread::yield_now;
 
 impl<L: Law> Port<L> {
-    /// Lets other threads run, before the pass tries again. Nothing changes by it, and it may wait.
-    pub fn park<R: Wait>(&self, _rt: &R, _pass: &mut PortPass<L>)
-        requires port { _pass.old.port ≡ self.now }
-        ensures { _pass.new ≡ _pass.old }
+    /// From now on a finish rings these bells, which several ports may share: so a caller of many ports sleeps at one bell. The
+    /// sleepers are named by the numbers of their passes.
+    pub fn hear(&mut self, bells: Arc<Bells, Global>)
+        ensures { self.new ≡ self.old }
     {
-        yield_now();
+        self.callers = bells;
     }
 
-    /// Lets other threads run, before the device takes again. Nothing changes by it, and it may wait.
-    pub fn rest<R: Wait>(&self, _rt: &R, _seat: &mut DeviceSeat<L>)
+    /// The bells that a finish rings. A caller of many ports has a patience of its own at them; one of this port alone has `park`.
+    pub fn bells(&self) -> &Bells {
+        &self.callers
+    }
+
+    /// After a look that found nothing, before the pass looks again: the first times it goes on at once, then it lets other
+    /// threads run, and then it sleeps until something is finished. A look belongs between any two calls, for else a wake may be
+    /// missed. It may also return for no reason, and nothing changes by it.
+    pub fn park<R: Wait>(&self, rt: &R, pass: &mut PortPass<L>)
+        requires port { pass.old.port ≡ self.now }
+        ensures { pass.new ≡ pass.old }
+    {
+        pass.patience.idle(rt, &self.callers);
+    }
+
+    /// Waits for a doorbell: the device looks some times, then lets other threads run in between, and then sleeps until a submit.
+    /// It may also return for no reason. Nothing changes by it.
+    pub fn rest<R: Wait>(&self, rt: &R, _seat: &mut DeviceSeat<L>)
         requires port { _seat.old.port ≡ self.now }
         ensures { _seat.new ≡ _seat.old }
     {
-        yield_now();
+        for look in 0..SPINS + YIELDS {
+            if self.tables.has_rung() {
+                return;
+            }
+            if look < SPINS {
+                spin_loop();
+            } else {
+                yield_now();
+            }
+        }
+        self.device.listen();
+        if self.tables.has_rung() {
+            self.device.leave();
+        } else {
+            self.device.sleep(rt);
+        }
     }
 }

@@ -9,6 +9,7 @@ ghost use Rattle.demi_port_core.specs.declared.view.Stage.TheVariants.{Idle, Hel
 ghost use Rattle.demi_port_core.specs.declared.view.Slip.TheVariants.{Asked};
 ghost use Rattle.demi_port_core.specs.declared.view.View.{View};
 ghost use Rattle.demi_port.specs.declared.key.Key.{Key};
+ghost use Rattle.demi_port_core.specs.Words.{token_word};
 
 use crate::LAST;
 use crate::key::Key;
@@ -17,7 +18,9 @@ use crate::plays::{Acquired, Drew, Gave, Looked};
 use crate::port::Port;
 use crate::tables::{SeatPair, Tables};
 use atomic_table::Badge;
-use demi_port_core::{Law, Place, Slip, Token, Trail, View};
+use demi_port_core::{
+    BELLS, FIRST_TOKEN, Law, Place, Slip, TICKET, TOKEN_STEP, Token, Trail, View,
+};
 
 /// No token could be had. The operation comes back.
 #[derive(Drop)]
@@ -26,7 +29,8 @@ pub struct TokensFull<L: Law>(pub L::Op);
 impl<L: Law> Port<L> {
     /// Puts the operation into the history, and gives its token and its place, which is above each that the pass had seen.
     /// The token is one of the port's, of a round in which it can be had, and none with which the pass has submitted before.
-    /// It looks at the tokens from index 0 upward, and takes no memory. The pass keeps the looks that it had, and its clock does not run back.
+    /// It looks first at the token that the pass had last, then at all from index 0 upward, and takes no memory. The device is woken if it sleeps.
+    /// The pass keeps the looks that it had, and its clock does not run back.
     /// `TokensFull` only where each token, at a step of its own in this call, was not free, was worn, or had another word than this call had just found.
     pub fn submit(&self, pass: &mut PortPass<L>, op: L::Op) -> Result<(Token, Place), TokensFull<L>>
         requires port { pass.old.port ≡ self.now }
@@ -38,10 +42,13 @@ impl<L: Law> Port<L> {
         ensures looks { Later pass.old pass.new }
         ensures full { IfErr result (λ e. (e.0 ≡ op) × OnlyLooked pass.old pass.new × ((i : ℕ) → i < self.now.tokens.slots → Missed pass.old pass.new i)) }
     {
-        let (token, place) = match self.tables.submit(&mut pass.pair, op) {
+        let (token, place) = match self.tables.submit(&mut pass.pair, pass.near, op) {
             Ok(given) => given,
             Err(op) => return Err(TokensFull(op)),
         };
+        self.device.ring();
+        pass.near = (token % 1024) as u32;
+        pass.patience.busy(&self.callers);
         Ok((Token(token), Place(place)))
     }
 }
@@ -51,11 +58,11 @@ impl<L: Law> Tables<L> {
         requires port { pass.old.seat.table_id ≡ self.now.table.shared.table_id }
         requires index { index < self.now.count }
         ensures port { (pass.new.seat.table_id ≡ pass.old.seat.table_id) × (pass.new.seat.id ≡ pass.old.seat.id) × (pass.new.seat.me.1 ≡ pass.old.seat.me.1) × (pass.new.record ≡ pass.old.record) }
-        ensures look { (t : ℕ) × (pass.old.seat.me.0.clock ≤ t) × (pass.new.seat.me.0 ≡ looking t (index + 3) result pass.old.seat.me.0) }
+        ensures look { (t : ℕ) × (pass.old.seat.me.0.clock ≤ t) × (pass.new.seat.me.0 ≡ looking t (token_word index) result pass.old.seat.me.0) }
     {
         self.table
             .shared
-            .load::<Looked>(&mut pass.seat, index as usize + 3)
+            .load::<Looked>(&mut pass.seat, index as usize * TOKEN_STEP + FIRST_TOKEN)
     }
 
     pub(crate) fn acquire(
@@ -71,12 +78,12 @@ impl<L: Law> Tables<L> {
         requires free { (pass.old.seat.me.0.role ≡ Pass) × (pass.old.seat.me.0.stage ≡ Idle) }
         requires slip { (op : L.Op) × (slip.now ≡ Some (Asked 0 op)) }
         ensures port { (pass.new.seat.table_id ≡ pass.old.seat.table_id) × (pass.new.seat.id ≡ pass.old.seat.id) × (pass.new.record ≡ pass.old.record) }
-        ensures lost { result ≡ false → (t : ℕ) × (n : ℕ) × (n ≢ round * 8) × (pass.old.seat.me.0.clock ≤ t) × (pass.new.seat.me.0 ≡ looking t (index + 3) n pass.old.seat.me.0) × (pass.new.seat.me.1 ≡ pass.old.seat.me.1) }
-        ensures won { (op : L.Op) → slip.now ≡ Some (Asked 0 op) → result ≡ true → (t : ℕ) × (pass.old.seat.me.0.clock ≤ t) × (pass.new.seat.me.0 ≡ holding index round (L.said op) (looking t (index + 3) (round * 8) pass.old.seat.me.0)) × (pass.new.seat.me.1 ≡ (index, None) ∷ pass.old.seat.me.1) }
+        ensures lost { result ≡ false → (t : ℕ) × (n : ℕ) × (n ≢ round * 8) × (pass.old.seat.me.0.clock ≤ t) × (pass.new.seat.me.0 ≡ looking t (token_word index) n pass.old.seat.me.0) × (pass.new.seat.me.1 ≡ pass.old.seat.me.1) }
+        ensures won { (op : L.Op) → slip.now ≡ Some (Asked 0 op) → result ≡ true → (t : ℕ) × (pass.old.seat.me.0.clock ≤ t) × (pass.new.seat.me.0 ≡ holding index round (L.said op) (looking t (token_word index) (round * 8) pass.old.seat.me.0)) × (pass.new.seat.me.1 ≡ (index, None) ∷ pass.old.seat.me.1) }
     {
         self.table.shared.compare_exchange_with::<Acquired<L>>(
             &mut pass.seat,
-            index as usize + 3,
+            index as usize * TOKEN_STEP + FIRST_TOKEN,
             round * 8,
             round * 8 + 1,
             slip,
@@ -91,7 +98,9 @@ impl<L: Law> Tables<L> {
         ensures drawn { (d : L.Said) × (pass.old.seat.me.0.said ≡ Some d) × (pass.new.seat.me.0 ≡ at_place result d pass.old.seat.me.0) }
         ensures fresh { (q : ℕ) (d : L.Said) → Among (q, (token_of pass.old.seat.me.0.round pass.old.seat.me.0.index, d)) pass.old.seat.me.0.mine → ⊥ }
     {
-        self.table.shared.fetch_add::<Drew>(&mut pass.seat, 0, 1)
+        self.table
+            .shared
+            .fetch_add::<Drew>(&mut pass.seat, TICKET, 1)
     }
 
     // The operation goes into the slot, and the token's doorbell is rung.
@@ -113,7 +122,7 @@ impl<L: Law> Tables<L> {
         }
         self.table
             .shared
-            .fetch_or::<Gave>(&mut pass.seat, 1, 1 << index);
+            .fetch_add::<Gave>(&mut pass.seat, BELLS, 1 << index);
     }
 
     // Gets the token if it is free. The answer is its round.
@@ -147,8 +156,31 @@ impl<L: Law> Tables<L> {
         }
     }
 
+    // Draws the place of an operation whose token was had, and rings. The token comes first.
+    fn give(&self, pass: &mut SeatPair<L>, index: u32, round: u64, op: L::Op) -> (u64, u64)
+        requires port { pass.old.seat.table_id ≡ self.now.table.shared.table_id }
+        requires at { (index < self.now.count) × (round < last_round) }
+        requires held { (w : View L.Said (Key L.Base)) × (pass.old.seat.me.0 ≡ holding index round (L.said op) w) × (pass.old.seat.me.1 ≡ (index, None) ∷ []) }
+        requires proper { L.proper self.now.table.shared.key.base (L.said op) }
+        ensures port { (pass.new.seat.table_id ≡ pass.old.seat.table_id) × (pass.new.record ≡ pass.old.record) × (pass.new.seat.me.1 ≡ []) }
+        ensures token { result.0 ≡ token_of round index }
+        ensures above { pass.old.seat.me.0.seen ≤ result.1 }
+        ensures fresh { (q : ℕ) (d : L.Said) → Among (q, (token_of round index, d)) pass.old.seat.me.0.mine → ⊥ }
+        ensures view { pass.new.seat.me.0 ≡ idling (at_place result.1 (L.said op) pass.old.seat.me.0) }
+    {
+        let place = self.draw(pass);
+        self.ring(pass, index, place, op);
+        (round * 1024 + index as u64, place)
+    }
+
     // The operation stands in the history at the place, which is above all that the pass had seen. The token comes first.
-    pub(crate) fn submit(&self, pass: &mut SeatPair<L>, op: L::Op) -> Result<(u64, u64), L::Op>
+    // The token at the index `near` is tried before all others.
+    pub(crate) fn submit(
+        &self,
+        pass: &mut SeatPair<L>,
+        near: u32,
+        op: L::Op,
+    ) -> Result<(u64, u64), L::Op>
         requires port { pass.old.seat.table_id ≡ self.now.table.shared.table_id }
         requires idle { (pass.old.seat.me.0.role ≡ Pass) × (pass.old.seat.me.0.stage ≡ Idle) × (pass.old.seat.me.1 ≡ []) }
         requires proper { L.proper self.now.table.shared.key.base (L.said op) }
@@ -159,14 +191,20 @@ impl<L: Law> Tables<L> {
         ensures full { IfErr result (λ o. (o ≡ op) × LookedOn pass.old.seat.me.0 pass.new.seat.me.0 × ((i : ℕ) → i < self.now.count → MissedSince pass.new.seat.me.0 pass.old.seat.me.0.clock i)) }
     {
         let slip = Some(Slip::Asked(0, op));
-        for index in 0..self.count {
-            if let Some(round) = self.try_token(pass, index, &slip) {
-                let place = self.draw(pass);
+        if near < self.count {
+            if let Some(round) = self.try_token(pass, near, &slip) {
                 let Some(Slip::Asked(_, op)) = slip else {
                     unreachable!()
                 };
-                self.ring(pass, index, place, op);
-                return Ok((round * 1024 + index as u64, place));
+                return Ok(self.give(pass, near, round, op));
+            }
+        }
+        for index in 0..self.count {
+            if let Some(round) = self.try_token(pass, index, &slip) {
+                let Some(Slip::Asked(_, op)) = slip else {
+                    unreachable!()
+                };
+                return Ok(self.give(pass, index, round, op));
             }
         }
         let Some(Slip::Asked(_, op)) = slip else {

@@ -1,10 +1,12 @@
 //! The two tables of a port, and the seats of a pass or of the device on both.
 //!
-//! Word 0 of the token table is the ticket, word 1 has the doorbell bits, word 2 the waker bits, and word `i + 3` is that
-//! of the token `i`, whose slot is `i`. The record table has one word, which is always 0, and no slots.
+//! The token table has a word for the ticket, one for the doorbell bits, one for the waker bits, and one for each token, all on
+//! cache lines of their own (`demi_port_core` says where). The slot of the token `i` is `i`. The record table has one word, which
+//! is always 0, and no slots.
 ghost use Rattle.std.specs.Prelude.{◌≡◌, ◌+◌, ◌≤◌};
 ghost use Rattle.atomic_table.specs.Seated.{table_id_coded};
 ghost use Rattle.std.specs.Coded.{Coded-set};
+ghost use Rattle.demi_port_core.specs.Words.{token_word};
 
 use crate::key::Key;
 use crate::rules::{Records, Tokens};
@@ -29,7 +31,7 @@ pub(crate) struct Tables<L: Law> {
     >,
     pub(crate) records: Table<(), Trail<L::Said, L::Told>, (), Records, Global>,
     pub(crate) count: u32,
-    ghost sized: { (table.shared.table_id.words ≡ count + 3) × (table.shared.table_id.slots ≡ count) × (count ≤ 64) × (1 ≤ count) },
+    ghost sized: { (table.shared.table_id.words ≡ token_word count) × (table.shared.table_id.slots ≡ count) × (count ≤ 64) × (1 ≤ count) },
     ghost one_word: { (records.shared.table_id.words ≡ 1) × (records.shared.table_id.slots ≡ 0) },
     ghost tied: { table.shared.key.records ≡ records.shared.table_id } by { Coded-set table_id_coded table.shared.key.records records.shared.table_id },
 }

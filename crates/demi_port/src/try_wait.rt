@@ -10,6 +10,7 @@ ghost use Rattle.demi_port_core.specs.declared.view.Role.TheVariants.{Pass};
 ghost use Rattle.demi_port_core.specs.declared.view.Stage.TheVariants.{Idle};
 ghost use Rattle.demi_port_core.specs.Answers.{Admitted};
 ghost use Rattle.demi_port_core.specs.declared.trail.Trail.{Trail};
+ghost use Rattle.demi_port_core.specs.Words.{token_word};
 
 use crate::LAST;
 use crate::pass::PortPass;
@@ -18,7 +19,7 @@ use crate::port::Port;
 use crate::redeem::Redeem;
 use crate::tables::{SeatPair, Tables};
 use atomic_table::Badge;
-use demi_port_core::{Law, Place, Slip, Token, Trail};
+use demi_port_core::{FIRST_TOKEN, Law, Place, Slip, TOKEN_STEP, Token, Trail};
 
 impl<L: Law> Port<L> {
     /// Redeems the token if its operation is finished, and gives the operation's place and outcome: `Ready` only where this call found the token done.
@@ -29,7 +30,7 @@ impl<L: Law> Port<L> {
         ensures same { (pass.new.port ≡ pass.old.port) × (pass.new.number ≡ pass.old.number) }
         ensures ready { IfReady result (λ p out. L.admits self.now.key.base pass.new.heard pass.new.trail p out × (p < pass.new.floor)) }
         ensures redeemed { IfReady result (λ p _. pass.new ≡ record pass.old { clock = pass.new.clock; looks = pass.new.looks; redeemed = pass.old.redeemed ++ (p, token.0) ∷ []; owes = clear (token.0 % 1024) pass.old.owes; heard = pass.new.heard; trail = pass.new.trail; floor = pass.new.floor }) }
-        ensures done { IfReady result (λ _ _. Saw pass.old pass.new (token.0 % 1024 + 3) (token.0 / 1024 * 8 + 2)) }
+        ensures done { IfReady result (λ _ _. Saw pass.old pass.new (token_word (token.0 % 1024)) (token.0 / 1024 * 8 + 2)) }
         ensures own { IfReady result (λ p _. (q : ℕ) (d : L.Said) → Among (q, (token.0, d)) pass.old.submitted → q ≡ p) }
         ensures once { IfReady result (λ _ _. times token.0 pass.old.redeemed ≡ 0) }
         ensures looks { Later pass.old pass.new }
@@ -39,6 +40,7 @@ impl<L: Law> Port<L> {
         ensures spent { IfSpent result (Found pass.old pass.new token.0 (λ n. (token.0 / 1024 < n / 8) ⊎ (n ≡ token.0 / 1024 * 8 + 3))) }
         ensures unknown { IfUnknown result ((((self.now.tokens.slots ≤ token.0 % 1024) ⊎ (last_round ≤ token.0 / 1024)) × (pass.new ≡ pass.old)) ⊎ Found pass.old pass.new token.0 (λ n. (n / 8 < token.0 / 1024) ⊎ (n ≡ token.0 / 1024 * 8))) }
     {
+        pass.near = (token.0 % 1024) as u32;
         self.tables.try_wait(&mut pass.pair, token.0)
     }
 }
@@ -67,18 +69,18 @@ impl<L: Law> Tables<L> {
         requires at { (index < self.now.count) × (round < last_round) }
         requires idle { (pass.old.seat.me.0.stage ≡ Idle) × (pass.old.seat.me.1 ≡ []) × (pass.old.record.me.0.device ≡ false) × (pass.old.record.me.0.handed ≡ []) × (pass.old.seat.me.0.role ≡ Pass) }
         ensures ready { IfOk result (λ r. (log : List (ℕ × (ℕ × L.Said))) × (v : Trail L.Said L.Told) × Admitted (L.admits self.now.table.shared.key.base) log r.0 r.1 v × (pass.new.record.me.0 ≡ caught_up pass.old.record.me.0 (handed_over v)) × Behind pass.new.record.me.0 pass.old.record.me.0 × Behind pass.new.record.me.0 (as_trail (handed_over v))) }
-        ensures done { IfOk result (λ r. (t : ℕ) × (pass.old.seat.me.0.clock ≤ t) × (pass.new.seat.me.0 ≡ idling (redeems index round r.0 (looking t (index + 3) (round * 8 + 2) pass.old.seat.me.0))) × (pass.new.seat.me.1 ≡ [])) }
+        ensures done { IfOk result (λ r. (t : ℕ) × (pass.old.seat.me.0.clock ≤ t) × (pass.new.seat.me.0 ≡ idling (redeems index round r.0 (looking t (token_word index) (round * 8 + 2) pass.old.seat.me.0))) × (pass.new.seat.me.1 ≡ [])) }
         ensures still { SameSeat pass.old.seat.me.0 pass.new.seat.me.0 × (pass.new.record.me.0.device ≡ false) × (pass.new.record.me.0.handed ≡ []) }
         ensures grows { Behind pass.new.record.me.0 pass.old.record.me.0 }
         ensures fresh { IfOk result (λ _. times (token_of round index) pass.old.seat.me.0.redeemed ≡ 0) }
         ensures own { IfOk result (λ r. (q : ℕ) (d : L.Said) → Among (q, (token_of round index, d)) pass.old.seat.me.0.mine → q ≡ r.0) }
         ensures port { (pass.new.seat.table_id ≡ pass.old.seat.table_id) × (pass.new.record.table_id ≡ pass.old.record.table_id) × (pass.new.record.me.1 ≡ pass.old.record.me.1) }
         ensures drawn { IfErr result (λ n. (q : ℕ) (d : L.Said) → Among (q, (token_of round index, d)) pass.old.seat.me.0.mine → round * 8 < n) }
-        ensures lost { IfErr result (λ n. (t : ℕ) × (n ≢ round * 8 + 2) × (n % 8 < 4) × (pass.old.seat.me.0.clock ≤ t) × (pass.new.seat.me.0 ≡ glanced index n (looking t (index + 3) n pass.old.seat.me.0)) × (pass.new.seat.me.1 ≡ []) × (pass.new.record.me.0 ≡ pass.old.record.me.0)) }
+        ensures lost { IfErr result (λ n. (t : ℕ) × (n ≢ round * 8 + 2) × (n % 8 < 4) × (pass.old.seat.me.0.clock ≤ t) × (pass.new.seat.me.0 ≡ glanced index n (looking t (token_word index) n pass.old.seat.me.0)) × (pass.new.seat.me.1 ≡ []) × (pass.new.record.me.0 ≡ pass.old.record.me.0)) }
     {
         let found = self.table.shared.compare_exchange::<Redeemed<L>>(
             &mut pass.seat,
-            index as usize + 3,
+            index as usize * TOKEN_STEP + FIRST_TOKEN,
             round * 8 + 2,
             round * 8 + 3,
         );
@@ -93,9 +95,11 @@ impl<L: Law> Tables<L> {
             unreachable!()
         };
         self.take_in(pass, beside);
-        self.table
-            .shared
-            .store::<Gave>(&mut pass.seat, index as usize + 3, (round + 1) * 8);
+        self.table.shared.store::<Gave>(
+            &mut pass.seat,
+            index as usize * TOKEN_STEP + FIRST_TOKEN,
+            (round + 1) * 8,
+        );
         Ok((place, out))
     }
 
@@ -105,7 +109,7 @@ impl<L: Law> Tables<L> {
         requires idle { (pass.old.seat.me.0.stage ≡ Idle) × (pass.old.seat.me.1 ≡ []) × (pass.old.record.me.0.device ≡ false) × (pass.old.record.me.0.handed ≡ []) × (pass.old.seat.me.0.role ≡ Pass) }
         ensures port { (pass.new.seat.table_id ≡ pass.old.seat.table_id) × (pass.new.record.table_id ≡ pass.old.record.table_id) × (pass.new.seat.me.1 ≡ []) × (pass.new.record.me.1 ≡ pass.old.record.me.1) }
         ensures ready { IfReady result (λ p out. (log : List (ℕ × (ℕ × L.Said))) × (v : Trail L.Said L.Told) × Admitted (L.admits self.now.table.shared.key.base) log p out v × (pass.new.record.me.0 ≡ caught_up pass.old.record.me.0 (handed_over v)) × Behind pass.new.record.me.0 pass.old.record.me.0 × Behind pass.new.record.me.0 (as_trail (handed_over v))) }
-        ensures redeemed { IfReady result (λ p _. (t : ℕ) × (pass.old.seat.me.0.clock ≤ t) × (pass.new.seat.me.0 ≡ idling (redeems (token % 1024) (token / 1024) p (looking t (token % 1024 + 3) (token / 1024 * 8 + 2) pass.old.seat.me.0)))) }
+        ensures redeemed { IfReady result (λ p _. (t : ℕ) × (pass.old.seat.me.0.clock ≤ t) × (pass.new.seat.me.0 ≡ idling (redeems (token % 1024) (token / 1024) p (looking t (token_word (token % 1024)) (token / 1024 * 8 + 2) pass.old.seat.me.0)))) }
         ensures still { SameSeat pass.old.seat.me.0 pass.new.seat.me.0 × (pass.new.record.me.0.device ≡ false) × (pass.new.record.me.0.handed ≡ []) }
         ensures grows { Behind pass.new.record.me.0 pass.old.record.me.0 }
         ensures fresh { IfReady result (λ _ _. times token pass.old.seat.me.0.redeemed ≡ 0) }

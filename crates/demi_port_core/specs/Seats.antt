@@ -11,6 +11,7 @@ use Rattle.demi_port_core.specs.declared.view.View.{View}
 use Rattle.demi_port_core.specs.History.{of_pass, total, times, Each, Apart}
 use Rattle.demi_port_core.specs.Phases.{held, drawn, opened, answering, done, redeeming, Cell, redeem_count, fetch_count, finish_count, got, keeper, token_of}
 use Rattle.demi_port_core.specs.Entries.{IsFetched, Before, IsReaped, IsFinished}
+use Rattle.demi_port_core.specs.Words.{wakers_word}
 
 -- at the time the word had the value
 abbrev pub IsTrueLook : List (List ℕ) → ℕ × (ℕ × ℕ) → Type 0
@@ -79,7 +80,7 @@ IsBusy {D} {K} views i j = (v : View D K) × (get_elem? views j ≡ some v) × (
 
 -- the token's waker bit is set, or a seat owes it a wake or a look
 abbrev pub Woken : {D K : Type 0} → List ℕ → List (View D K) → ℕ → Type 0
-Woken {D} {K} words views i = (bit_at (slice_index_or words 2 0) i ≡ 1) ⊎ ((j : ℕ) × (v : View D K) × (get_elem? views j ≡ some v) × (bit_at v.owes i ≡ 1))
+Woken {D} {K} words views i = (bit_at (slice_index_or words wakers_word 0) i ≡ 1) ⊎ ((j : ℕ) × (v : View D K) × (get_elem? views j ≡ some v) × (bit_at v.owes i ≡ 1))
 
 -- each seat knows what is so, a token that a pass holds is at that pass's call, each token that is done is woken, the sums are those of the history and the tokens, and no token was redeemed twice
 pub record SeatsOk {D K : Type 0} (key : K) (past : List (List ℕ)) (owner : ℕ → ℕ) (made : ℕ) (log : List (ℕ × (ℕ × D))) (words : List ℕ) (cells : List Cell) (views : List (View D K)) : Type 0 where

@@ -1,5 +1,4 @@
 -- The rule of the tokens: what their words, doorbell bits and slots show.
--- Word 0 is the ticket, word 1 the doorbells, word 2 the waker bits, and word i + 3 that of token i.
 use Rattle.std.specs.Prelude.{◌≡◌, ℕ, ◌+◌, ◌<◌, ◌≤◌, List, length, Option, Some, None, slice_index_or}
 use Rattle.std.specs.Int.{bit_at}
 use mathlib.Core.Option.{some}
@@ -9,6 +8,7 @@ use Rattle.demi_port_core.specs.declared.view.Slip.{Slip}
 use Rattle.demi_port_core.specs.declared.view.Slip.TheVariants.{Asked, Fetched, Answered}
 use Rattle.demi_port_core.specs.History.{total}
 use Rattle.demi_port_core.specs.Phases.{Phase, free, held, drawn, rung, taken, opened, answering, done, redeeming, Cell, face, draw_count, bell, last_round, token_of}
+use Rattle.demi_port_core.specs.Words.{bells_word, ticket_word, token_word}
 
 module _ {O U B D : Type 0} (said : O → D) (answers : List (ℕ × (ℕ × D)) → ℕ → U → B → Type 0) (log : List (ℕ × (ℕ × D))) (homes : List (maybe.Option (Option (Slip O U B)))) (i : ℕ) where
   -- the token's place is p
@@ -41,16 +41,16 @@ module _ {O U B D : Type 0} (said : O → D) (answers : List (ℕ × (ℕ × D))
 
 -- the token's word and doorbell bit show its cell, and the history and the slot fit its phase
 pub record CellOk {O U B D : Type 0} (said : O → D) (answers : List (ℕ × (ℕ × D)) → ℕ → U → B → Type 0) (log : List (ℕ × (ℕ × D))) (words : List ℕ) (homes : List (maybe.Option (Option (Slip O U B)))) (i : ℕ) (c : Cell) : Type 0 where
-  pub shows : slice_index_or words (i + 3) 0 ≡ face c
-  pub rings : bit_at (slice_index_or words 1 0) i ≡ bell c.1
+  pub shows : slice_index_or words (token_word i) 0 ≡ face c
+  pub rings : bit_at (slice_index_or words bells_word 0) i ≡ bell c.1
   pub phase : InPhase said answers log homes i c.0 c.1
 
 -- the ticket is the length of the history, which is the sum of what the tokens drew, and only tokens have doorbell bits
 pub record CellsOk {O U B D : Type 0} (said : O → D) (answers : List (ℕ × (ℕ × D)) → ℕ → U → B → Type 0) (log : List (ℕ × (ℕ × D))) (words : List ℕ) (homes : List (maybe.Option (Option (Slip O U B)))) (cells : List Cell) : Type 0 where
   pub few : length homes ≤ 64
-  pub wide : length words ≡ length homes + 3
+  pub wide : length words ≡ token_word (length homes)
   pub as_many : length cells ≡ length homes
-  pub ticket : slice_index_or words 0 0 ≡ length log
+  pub ticket : slice_index_or words ticket_word 0 ≡ length log
   pub counted : total draw_count cells ≡ length log
-  pub bells : (i : ℕ) → length homes ≤ i → bit_at (slice_index_or words 1 0) i ≡ 0
+  pub bells : (i : ℕ) → length homes ≤ i → bit_at (slice_index_or words bells_word 0) i ≡ 0
   pub each_cell : (i : ℕ) (c : Cell) → get_elem? cells i ≡ some c → CellOk said answers log words homes i c

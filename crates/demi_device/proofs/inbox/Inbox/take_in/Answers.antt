@@ -5,6 +5,7 @@ use Rattle.std.proofs.lemmas.Nat.Bits.{bit_at-zero}
 use Rattle.demi_port_core.specs.Bits.{has_bit}
 use Rattle.demi_device.proofs.Bells.{first_has, not_one, or_none, or_right}
 use Rattle.demi_device.proofs.inbox.Inbox.take_in.Goals as goal
+use Rattle.demi_port_core.specs.Words.{bells_word}
 
 pub fetch_rung-requires-clause-taken : goal.fetch_rung-requires-clause-taken
 fetch_rung-requires-clause-taken g c κs within i small bound set = let b = c.take-bells.ensures.bells in let n : ℕ = b.1 in
@@ -22,7 +23,7 @@ returns-clause-quiet g c nothing = let b = c.take-bells.ensures.bells in let t :
     t,
     n,
     subst (λ (m : ℕ). m ≤ t) (ap (λ z. z.seat.clock) c.self.view_is) b.2,
-    ap (λ z. z.looks) f.fetched.1 ∙ ap (λ z. z.looks) b.4 ∙ ap (λ z. z.seat.looks ++ (t, (1, n)) ∷ []) c.self.view_is,
+    ap (λ z. z.looks) f.fetched.1 ∙ ap (λ z. z.looks) b.4 ∙ ap (λ z. z.seat.looks ++ (t, (bells_word, n)) ∷ []) c.self.view_is,
     λ i small bound. not_one n i (λ one. k.1 i (subst (λ (m : ℕ). i < m) (ap (λ z. z.tokens.slots) c.requires.port) small) bound (ap (λ ws. has_bit ws i) b.3 ∙ first_has i n (replicate 15 0) bound ∙ one)),
   ),
   k.0 ∙ ap (λ z. z.fetched) b.4 ∙ ap (λ z. z.seat.fetched) c.self.view_is,

@@ -2,6 +2,7 @@ use Rattle.std.proofs.Common.{◌≢◌, ℕ, ◌+◌, ◌*◌, ◌/◌, ◌≤�
 use Rattle.demi_port_core.specs.Told.{looking}
 use Rattle.demi_port_core.proofs.Sights.{later_look, later_same, missed_word, missed_race}
 use Rattle.demi_port.proofs.tables.Tables.try_token.Goals as goal
+use Rattle.demi_port_core.specs.Words.{token_word}
 
 pub returns-then-word-ne0-clause-lost : goal.returns-then-word-ne0-clause-lost
 returns-then-word-ne0-clause-lost g c = let k = c.look-word.ensures.look in let m = missed_word c.args.pass.now.seat.me.0 _ k.0 c.args.index c.look-word.result k.1 k.2 (inl c.if-word-ne0.true) in (m.0, m.1, c.look-word.ensures.port.2)
@@ -12,8 +13,8 @@ returns-then-round-ge-LAST-clause-lost g c = let k = c.look-word.ensures.look in
 
 pub returns-then-acquire-clause-won : goal.returns-then-acquire-clause-won
 returns-then-acquire-clause-won g c op is = let k = c.look-word.ensures.look in let a = c.acquire.ensures.won op is c.if-acquire.true in let v = c.args.pass.now.seat.me.0 in let w = c.look-word.new.pass.seat.me.0 in let i : ℕ = c.args.index in let n : ℕ = c.look-word.result in
-    let mid = later_look v v w k.0 (i + 3) n (later_same v) k.1 k.2 in let x = looking a.0 (i + 3) (n / 8 * 8) w in
-    (x, later_look v w x a.0 (i + 3) (n / 8 * 8) mid a.1 refl, a.2, a.3 ∙ ap (λ l. (i, None) ∷ l) c.look-word.ensures.port.2)
+    let mid = later_look v v w k.0 (token_word i) n (later_same v) k.1 k.2 in let x = looking a.0 (token_word i) (n / 8 * 8) w in
+    (x, later_look v w x a.0 (token_word i) (n / 8 * 8) mid a.1 refl, a.2, a.3 ∙ ap (λ l. (i, None) ∷ l) c.look-word.ensures.port.2)
 
 pub returns-else-acquire-clause-lost : goal.returns-else-acquire-clause-lost
 returns-else-acquire-clause-lost g c = let k = c.look-word.ensures.look in let a = c.acquire.ensures.lost c.if-acquire.false in let n : ℕ = c.look-word.result in let m : ℕ = a.1 in
