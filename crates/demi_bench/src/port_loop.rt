@@ -49,7 +49,7 @@ fn redeem<R: Wait>(rt: &R, port: &Port<Doubles>, pass: &mut PortPass<Doubles>, t
     for _ in rt.forever() {
         match port.try_wait(pass, token) {
             Redeem::Ready(_, out) => return out,
-            Redeem::NotYet | Redeem::Spent | Redeem::Unknown => yield_now(),
+            Redeem::NotYet | Redeem::Spent | Redeem::Unknown => port.park(rt, pass),
         }
     }
     unreachable!()
