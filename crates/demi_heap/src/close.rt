@@ -41,9 +41,12 @@ fn gather(words: &Slots, mut passes: Vec<HeapPass>) -> HeapSeat
     ensures loans { (result.me.0.loaned ≡ sum_by loans passes.items) × (result.me.0.returned ≡ sum_by returns passes.items) }
 {
     let first = passes.pop().unwrap();
-    let HeapPass { mut seat } = first;
+    let HeapPass { mut seat, near: _ } = first;
     while let Some(pass) = passes.pop() {
-        let HeapPass { seat: other } = pass;
+        let HeapPass {
+            seat: other,
+            near: _,
+        } = pass;
         take_pass(words, &mut seat, other);
     }
     passes.destroy_empty();

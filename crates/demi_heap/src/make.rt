@@ -9,6 +9,7 @@ use crate::carve::{carve_all, dismantle};
 use crate::counts::Counts;
 use crate::heap::Heap;
 use crate::key::{Carve, Key};
+use crate::near::Near;
 use crate::pass::HeapPass;
 use crate::steps::deal_one;
 use crate::table::{HeapSeat, Slots};
@@ -79,11 +80,12 @@ fn deal(words: &Slots, mut seat: HeapSeat, count: u32, passes: &mut Vec<HeapPass
     ensures len { length passes.new.items ≡ count }
     ensures new { All (λ p. p ≡ new_pass record { table = words.now.table_id; shape = words.now.key }) passes.new.items }
 {
+    let near = Near::of(0, 0, 0);
     for _ in 1..count {
         let one = deal_one(words, &mut seat);
-        passes.push_reserved(HeapPass { seat: one });
+        passes.push_reserved(HeapPass { seat: one, near });
     }
-    passes.push_reserved(HeapPass { seat });
+    passes.push_reserved(HeapPass { seat, near });
 }
 
 impl Heap {

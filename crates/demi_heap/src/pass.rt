@@ -1,3 +1,4 @@
+use crate::near::Near;
 use crate::table::HeapSeat;
 use std::marker::Model;
 
@@ -8,6 +9,7 @@ use std::marker::Model;
 #[derive(Drop)]
 pub struct HeapPass {
     pub(crate) seat: HeapSeat,
+    pub(crate) near: Near,
 }
 
 impl Model for HeapPass {

@@ -6,7 +6,7 @@ use Rattle.demi_buf.specs.declared.class.Class.TheVariants.{Small, Page, Large}
 use mathlib.Core.Option.{some}
 use lib.ListN.{get_elem?}
 use Rattle.demi_heap.specs.Rule.{first_of, end_of}
-use Rattle.demi_heap.specs.Seen.{HeapId, HalfValue, PassValue, FoundFree, SawHeld, SawOwned, looked_as, one_claimed, new_half, half_with, half_written}
+use Rattle.demi_heap.specs.Seen.{HeapId, HalfValue, PassValue, CameRoundTo, FoundFree, SawHeld, looked_as, one_claimed, new_half, half_with, half_written}
 
 -- an array that was lent: its segments in order, and how many of them are taken back already
 pub record LentValue : Type 0 where
@@ -80,9 +80,9 @@ bad_size n = (n == 0) || nat_lt (size_of Large) n
 abbrev pub zeroed : HeapId → Class → ℕ → ℕ → HalfValue
 zeroed h c slot n = half_with (new_half h c slot) (replicate n 0)
 
--- A call that brought the pass from v to w claimed this slot of the class: each slot of the class before it had an owner, and it had no half
+-- A call that brought the pass from v to w claimed this slot of the class: it went round the class, each slot that it came to before had an owner, and this one had no half
 pub record Claimed (h : HeapId) (c : Class) (v w : PassValue) (slot : ℕ) : Type 0 where
   pub in_class : (first_of h.shape c ≤ slot) × (slot < end_of h.shape c)
-  pub skipped : SawOwned v w (first_of h.shape c) slot
+  pub skipped : CameRoundTo v w (first_of h.shape c) (end_of h.shape c) slot
   pub free : FoundFree (looked_as v w) slot
   pub pass : w ≡ one_claimed (looked_as v w)
