@@ -4,8 +4,8 @@ use lib.ListN.{get_elem?}
 use Rattle.std.proofs.Common.{◌≡◌, ℕ, ◌+◌, ◌<◌, ◌≤◌, ap, sym, ◌∙◌, arith, subst}
 use Rattle.demi_heap.specs.Seen.{PassValue, looked_as, one_claimed, one_ended}
 use Rattle.demi_heap.specs.Rule.{first_of, end_of}
-use Rattle.demi_sga.specs.Arrays.{returned_by}
-use Rattle.demi_logq.specs.Items.{Accounts, FoundNone}
+use Rattle.demi_sga.specs.Arrays.{class_for, returned_by}
+use Rattle.demi_logq.specs.Items.{Accounts, NoneHolds}
 
 module _ (v w : PassValue) where
   pub accounts_claimed : w ≡ one_claimed (looked_as v w) → v.clock ≤ w.clock → Accounts v w 0 1
@@ -72,12 +72,10 @@ module _ (u v w : PassValue) where
       }
 
   -- what the later part of a call found
-  pub found_later : (a b : ℕ) → Accounts u v a b → FoundNone v w → FoundNone u w
-  found_later a b p f = let c = f.0 in let late = p.clock in (
-    c,
-    record { at = λ k low high. let x = f.1.at k (subst (λ h. first_of h.shape c ≤ k) (sym p.heap) low) (subst (λ h. k < end_of h.shape c) (sym p.heap) high) in let since = x.2 in (x.0, x.1, omega arith, x.3) },
-  )
+  pub found_later : (a b n : ℕ) → Accounts u v a b → NoneHolds v w n → NoneHolds u w n
+  found_later a b n p f = let c = class_for n in let late = p.clock in
+      record { at = λ k low high. let x = f.at k (subst (λ h. first_of h.shape c ≤ k) (sym p.heap) low) (subst (λ h. k < end_of h.shape c) (sym p.heap) high) in let since = x.2 in (x.0, x.1, omega arith, x.3) }
 
   -- a free looks at nothing
-  pub found_freed : FoundNone u v → w ≡ one_ended v → FoundNone u w
-  found_freed f e = let c = f.0 in (c, record { at = λ k low high. let x = f.1.at k low high in (x.0, x.1, x.2, subst (λ m. get_elem? m x.1 ≡ some (x.0, k)) (sym (ap (λ (z : PassValue). z.missed) e)) x.3) })
+  pub found_freed : (n : ℕ) → NoneHolds u v n → w ≡ one_ended v → NoneHolds u w n
+  found_freed n f e = record { at = λ k low high. let x = f.at k low high in (x.0, x.1, x.2, subst (λ m. get_elem? m x.1 ≡ some (x.0, k)) (sym (ap (λ (z : PassValue). z.missed) e)) x.3) }

@@ -16,11 +16,11 @@ use Rattle.demi_logq.specs.Items.{tells}
 use Rattle.demi_logq.specs.Queues.{Answered}
 use Rattle.demi_logq.proofs.Entry.{length-ends}
 
-when_true : {A : Type 0} (b : Bool) (x y : A) → b ≡ true → cond b x y ≡ x
+pub when_true : {A : Type 0} (b : Bool) (x y : A) → b ≡ true → cond b x y ≡ x
 when_true true x y e = refl
 when_true false x y e = absurd (cc)
 
-when_false : {A : Type 0} (b : Bool) (x y : A) → b ≡ false → cond b x y ≡ y
+pub when_false : {A : Type 0} (b : Bool) (x y : A) → b ≡ false → cond b x y ≡ y
 when_false true x y e = absurd (cc)
 when_false false x y e = refl
 
@@ -30,10 +30,10 @@ same_is a b e = grind (arith, nat_tests)
 pub other_is : (a b : ℕ) → a ≢ b → (a == b) ≡ false
 other_is a b e = grind (arith, nat_tests)
 
-below_is : (a b : ℕ) → a < b → nat_lt a b ≡ true
+pub below_is : (a b : ℕ) → a < b → nat_lt a b ≡ true
 below_is a b e = grind (arith, nat_tests)
 
-above_is : (a b : ℕ) → b ≤ a → nat_lt a b ≡ false
+pub above_is : (a b : ℕ) → b ≤ a → nat_lt a b ≡ false
 above_is a b e = grind (arith, nat_tests)
 
 most_is : (a b : ℕ) → a ≤ b → nat_le a b ≡ true

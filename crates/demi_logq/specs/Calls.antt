@@ -1,7 +1,8 @@
 -- What a commit and a cut of a log do.
-use Rattle.std.specs.Prelude.{◌≡◌, ℕ, ◌+◌, ◌<◌, ◌≤◌, ◌⊎◌, Bool, true, false, List, [], ◌∷◌, ◌++◌, length, take, Option, option_map, Result, Ok, Err}
+use Rattle.std.specs.Prelude.{◌≡◌, ℕ, ◌+◌, ◌<◌, ◌≤◌, ◌⊎◌, Bool, true, false, List, [], ◌∷◌, ◌++◌, length, take, Option, Result, Ok, Err}
 use Rattle.std.specs.Io.KnownBytes.{append_known}
 use Rattle.demi_core.specs.Outside.{Rose, GrowsByFront}
+use Rattle.demi_core.specs.Outside as outside
 use Rattle.demi_spec.specs.LogText.{entry}
 use Rattle.demi_logq.specs.Logged.{Logged, Holds, IsSound, place_of}
 use Rattle.demi_logq.specs.declared.refusal.LogRefusal.{LogRefusal}
@@ -40,21 +41,23 @@ Committed bytes held faults appends old new (Err refusal.Broken) = IsBroken old 
 Committed bytes held faults appends old new (Err other) = ⊥
 
 -- the first entries stay, by one cut of the disk
-pub record Cut {D : Type 0} (bytes : D → Option (List ℕ)) (cuts : D → ℕ → Bool → D → Type 0) (old new : Logged D) (n : ℕ) : Type 0 where
+pub record Cut {D : Type 0} (bytes : D → Option (List ℕ)) (held : D → ℕ) (cuts : D → ℕ → Bool → D → Type 0) (old new : Logged D) (n : ℕ) : Type 0 where
   pub sound : IsSound old
   pub now : new ≡ record old { disk = new.disk; ends = take n old.ends }
   pub holds : (payloads : List (List ℕ)) → Holds (bytes old.disk) old.ends payloads → Holds (bytes new.disk) new.ends (take n payloads)
-  pub bytes_are : bytes new.disk ≡ option_map (take (place_of old.ends n)) (bytes old.disk)
+  pub disk : outside.Cut (bytes old.disk) (bytes new.disk) (held new.disk) (place_of old.ends n)
   pub call : cuts old.disk (place_of old.ends n) true new.disk
 
-pub record Lost {D : Type 0} (faults : D → ℕ) (cuts : D → ℕ → Bool → D → Type 0) (old new : Logged D) (n : ℕ) : Type 0 where
+-- the cut failed: the disk was cut, or is as before
+pub record Lost {D : Type 0} (bytes : D → Option (List ℕ)) (held faults : D → ℕ) (cuts : D → ℕ → Bool → D → Type 0) (old new : Logged D) (n : ℕ) : Type 0 where
   pub sound : IsSound old
   pub now : new ≡ record old { disk = new.disk; lost = true }
+  pub left : outside.Cut (bytes old.disk) (bytes new.disk) (held new.disk) (place_of old.ends n) ⊎ ((bytes new.disk ≡ bytes old.disk) × (held new.disk ≡ held old.disk))
   pub call : cuts old.disk (place_of old.ends n) false new.disk
   pub cause : Rose (faults old.disk) (faults new.disk)
 
 abbrev pub Shortened : {D : Type 0} → (D → Option (List ℕ)) → (D → ℕ) → (D → ℕ) → (D → ℕ → Bool → D → Type 0) → Logged D → Logged D → ℕ → Result (Unit {0}) LogRefusal → Type 0
-Shortened bytes held faults cuts old new n (Ok done) = Cut bytes cuts old new n
-Shortened bytes held faults cuts old new n (Err refusal.Failed) = Lost faults cuts old new n
+Shortened bytes held faults cuts old new n (Ok done) = Cut bytes held cuts old new n
+Shortened bytes held faults cuts old new n (Err refusal.Failed) = Lost bytes held faults cuts old new n
 Shortened bytes held faults cuts old new n (Err refusal.Broken) = IsBroken old × (new ≡ old)
 Shortened bytes held faults cuts old new n (Err other) = ⊥

@@ -64,32 +64,32 @@ abbrev pub basis_of : {D : Type 0} → (D → Option (List ℕ)) → Logged D �
 basis_of bytes log heap = record { payloads = payloads_in (bytes log.disk) log.ends; limit = log.limit; heap = heap; told = tells (bytes log.disk) }
 
 -- one operation was served, and this is its outcome
-pub record Step {D : Type 0} (bytes : D → Option (List ℕ)) (faults : D → ℕ) (appends : D → List ℕ → Bool → D → Type 0) (cuts : D → ℕ → Bool → D → Type 0) (looks : D → D → Type 0) (a : EngineValue D) (op : LogOp) (o : LogOut) (b : EngineValue D) : Type 0 where
+pub record Step {D : Type 0} (bytes : D → Option (List ℕ)) (held faults : D → ℕ) (appends : D → List ℕ → Bool → D → Type 0) (cuts : D → ℕ → Bool → D → Type 0) (looks : D → D → Type 0) (a : EngineValue D) (op : LogOp) (o : LogOut) (b : EngineValue D) : Type 0 where
   pub base : b.base ≡ a.base
   pub served : b.served ≡ a.served ++ op ∷ []
   pub finished : b.finished ≡ a.finished ++ (length a.served, o) ∷ []
-  pub moves : Moves bytes faults appends cuts looks a.log b.log a.pass b.pass op o
+  pub moves : Moves bytes held faults appends cuts looks (stood a.base a.served a.finished) a.log b.log a.pass b.pass op o
 
 -- operations were served one after another, with these outcomes
-abbrev pub Steps : {D : Type 0} → (D → Option (List ℕ)) → (D → ℕ) → (D → List ℕ → Bool → D → Type 0) → (D → ℕ → Bool → D → Type 0) → (D → D → Type 0) → List (LogOp × LogOut) → EngineValue D → EngineValue D → Type 0
-Steps bytes faults appends cuts looks [] a c = c ≡ a
-Steps {D} bytes faults appends cuts looks (x ∷ xs) a c = (b : EngineValue D) × Step bytes faults appends cuts looks a x.0 x.1 b × Steps bytes faults appends cuts looks xs b c
+abbrev pub Steps : {D : Type 0} → (D → Option (List ℕ)) → (D → ℕ) → (D → ℕ) → (D → List ℕ → Bool → D → Type 0) → (D → ℕ → Bool → D → Type 0) → (D → D → Type 0) → List (LogOp × LogOut) → EngineValue D → EngineValue D → Type 0
+Steps bytes held faults appends cuts looks [] a c = c ≡ a
+Steps {D} bytes held faults appends cuts looks (x ∷ xs) a c = (b : EngineValue D) × Step bytes held faults appends cuts looks a x.0 x.1 b × Steps bytes held faults appends cuts looks xs b c
 
 -- An engine has become another by serving operations and nothing else. Since each step serves one, what was served tells how many steps
 -- there were.
-abbrev pub GoesTo : {D : Type 0} → (D → Option (List ℕ)) → (D → ℕ) → (D → List ℕ → Bool → D → Type 0) → (D → ℕ → Bool → D → Type 0) → (D → D → Type 0) → EngineValue D → EngineValue D → Type 0
-GoesTo {D} bytes faults appends cuts looks a b = (xs : List (LogOp × LogOut)) × Steps bytes faults appends cuts looks xs a b
+abbrev pub GoesTo : {D : Type 0} → (D → Option (List ℕ)) → (D → ℕ) → (D → ℕ) → (D → List ℕ → Bool → D → Type 0) → (D → ℕ → Bool → D → Type 0) → (D → D → Type 0) → EngineValue D → EngineValue D → Type 0
+GoesTo {D} bytes held faults appends cuts looks a b = (xs : List (LogOp × LogOut)) × Steps bytes held faults appends cuts looks xs a b
 
-module _ {D : Type 0} (bytes : D → Option (List ℕ)) (faults : D → ℕ) (appends : D → List ℕ → Bool → D → Type 0) (cuts : D → ℕ → Bool → D → Type 0) (looks : D → D → Type 0) where
-  steps_on : (xs ys : List (LogOp × LogOut)) (a b c : EngineValue D) → Steps bytes faults appends cuts looks xs a b → Steps bytes faults appends cuts looks ys b c → Steps bytes faults appends cuts looks (xs ++ ys) a c
+module _ {D : Type 0} (bytes : D → Option (List ℕ)) (held faults : D → ℕ) (appends : D → List ℕ → Bool → D → Type 0) (cuts : D → ℕ → Bool → D → Type 0) (looks : D → D → Type 0) where
+  steps_on : (xs ys : List (LogOp × LogOut)) (a b c : EngineValue D) → Steps bytes held faults appends cuts looks xs a b → Steps bytes held faults appends cuts looks ys b c → Steps bytes held faults appends cuts looks (xs ++ ys) a c
   steps_on [] ys a b c p q = subst_front p q
     where
-      subst_front : b ≡ a → Steps bytes faults appends cuts looks ys b c → Steps bytes faults appends cuts looks ys a c
-      subst_front e s = Rattle.std.proofs.Common.subst (λ (v : EngineValue D). Steps bytes faults appends cuts looks ys v c) e s
+      subst_front : b ≡ a → Steps bytes held faults appends cuts looks ys b c → Steps bytes held faults appends cuts looks ys a c
+      subst_front e s = Rattle.std.proofs.Common.subst (λ (v : EngineValue D). Steps bytes held faults appends cuts looks ys v c) e s
   steps_on (x ∷ xs) ys a b c p q = (p.0, p.1, steps_on xs ys p.0 b c p.2 q)
 
-  pub goes_self : (a : EngineValue D) → GoesTo bytes faults appends cuts looks a a
+  pub goes_self : (a : EngineValue D) → GoesTo bytes held faults appends cuts looks a a
   goes_self a = ([], refl)
 
-  pub goes_on : (a b c : EngineValue D) → GoesTo bytes faults appends cuts looks a b → GoesTo bytes faults appends cuts looks b c → GoesTo bytes faults appends cuts looks a c
+  pub goes_on : (a b c : EngineValue D) → GoesTo bytes held faults appends cuts looks a b → GoesTo bytes held faults appends cuts looks b c → GoesTo bytes held faults appends cuts looks a c
   goes_on a b c p q = (p.0 ++ q.0, steps_on p.0 q.0 a b c p.1 q.1)

@@ -1,5 +1,6 @@
 -- What a log holds, as its callers see it, and how its fields stand for that.
 use Rattle.std.specs.Prelude.{◌≡◌, ℕ, ◌+◌, ◌-◌, ◌<◌, ◌≤◌, ◌==◌, Bool, true, false, if◌then◌else◌, List, [], ◌∷◌, length, take, get_or, Option, IfSome}
+use Rattle.std.specs.Io.KnownBytes.{append_known}
 use Rattle.std.specs.List.{AllByRecursion}
 use Rattle.demi_core.specs.Outside.{GrowsByFront, disk_max}
 use Rattle.demi_spec.specs.LogText.{entries, log_text, IsPayload, header}
@@ -80,6 +81,10 @@ OpenedBy {D} looks appends held old new = (held ≡ 0 → (d : D) × looks old d
 -- at one that was refused: looks, and perhaps on an empty disk one append of the header that failed
 abbrev pub NotOpenedBy : {D : Type 0} → (D → D → Type 0) → (D → List ℕ → Bool → D → Type 0) → ℕ → D → D → Type 0
 NotOpenedBy {D} looks appends held old new = looks old new ⊎ ((held ≡ 0) × ((d : D) × looks old d × appends d header false new))
+
+-- what a disk holds that was opened: what it held, or where that was nothing the header
+abbrev pub StandsAs : Option (List ℕ) → Option (List ℕ) → ℕ → ℕ → Type 0
+StandsAs old new held_old held_new = (0 < held_old → (new ≡ old) × (held_new ≡ held_old)) × (held_old ≡ 0 → (new ≡ append_known old header) × (held_new ≡ 8))
 
 -- what a disk holds that was refused: what it held, or where it was empty a front of the header
 abbrev pub LeftAs : Option (List ℕ) → Option (List ℕ) → ℕ → ℕ → Type 0

@@ -1,6 +1,8 @@
 -- How a log's queue stands for what its operations made of it, and what one operation does.
-use Rattle.std.specs.Prelude.{◌≡◌, ℕ, ◌≤◌, Bool, true, false, List, [], ◌∷◌, ◌++◌, length, take, Option, None, option_map}
-use Rattle.demi_core.specs.Outside.{Rose}
+use Rattle.std.specs.Prelude.{◌≡◌, ◌⊎◌, ℕ, ◌+◌, ◌≤◌, Bool, true, false, List, [], ◌∷◌, ◌++◌, length, take, get_or, Option, None, option_map}
+use Rattle.std.specs.Io.KnownBytes.{append_known}
+use Rattle.demi_core.specs.Outside.{Rose, GrowsByFront}
+use Rattle.demi_core.specs.Outside as outside
 use Rattle.demi_heap.specs.Seen.{HeapId, PassValue}
 use Rattle.demi_port_core.specs.declared.place.Place.{Place}
 use Rattle.demi_spec.specs.LogText.{entry}
@@ -32,23 +34,33 @@ Turns bytes f a b = (payloads : List (List ℕ)) → Holds (bytes a.disk) a.ends
 
 -- What an operation does with the log, by its outcome: a push that is appended is one append of the disk, a cut is one cut, a pop that
 -- reads makes looks alone, and no other does anything.
-abbrev pub LogGoes : {D : Type 0} → (D → Option (List ℕ)) → (D → List ℕ → Bool → D → Type 0) → (D → ℕ → Bool → D → Type 0) → (D → D → Type 0) → Logged D → Logged D → LogOp → LogOut → Type 0
-LogGoes bytes appends cuts looks a b (Push sga) (Appended n) = appends a.disk (entry (bytes_of sga)) true b.disk × Turns bytes (λ (l : List (List ℕ)). l ++ bytes_of sga ∷ []) a b
-LogGoes bytes appends cuts looks a b (Push sga) Fault = appends a.disk (entry (bytes_of sga)) false b.disk × Turns bytes (λ (l : List (List ℕ)). l) a b
-LogGoes bytes appends cuts looks a b Pop (Item sga) = (b ≡ record a { disk = b.disk }) × looks a.disk b.disk × (bytes b.disk ≡ bytes a.disk)
-LogGoes bytes appends cuts looks a b Pop Fault = (b ≡ record a { disk = b.disk }) × looks a.disk b.disk × (bytes b.disk ≡ bytes a.disk)
-LogGoes bytes appends cuts looks a b (Truncate keep) Cut = cuts a.disk (place_of a.ends keep) true b.disk × Turns bytes (take keep) a b
-LogGoes bytes appends cuts looks a b (Truncate keep) Fault = cuts a.disk (place_of a.ends keep) false b.disk
-LogGoes bytes appends cuts looks a b op o = b ≡ a
+abbrev pub LogGoes : {D : Type 0} → (D → Option (List ℕ)) → (D → ℕ) → (D → List ℕ → Bool → D → Type 0) → (D → ℕ → Bool → D → Type 0) → (D → D → Type 0) → Logged D → Logged D → LogOp → LogOut → Type 0
+LogGoes bytes held appends cuts looks a b (Push sga) (Appended n) =
+    appends a.disk (entry (bytes_of sga)) true b.disk × (bytes b.disk ≡ append_known (bytes a.disk) (entry (bytes_of sga))) × (held b.disk ≡ held a.disk + (4 + length (bytes_of sga)))
+    × Turns bytes (λ (l : List (List ℕ)). l ++ bytes_of sga ∷ []) a b
+LogGoes bytes held appends cuts looks a b (Push sga) Fault =
+    appends a.disk (entry (bytes_of sga)) false b.disk × GrowsByFront (bytes a.disk) (bytes b.disk) (held a.disk) (held b.disk) (entry (bytes_of sga)) × Turns bytes (λ (l : List (List ℕ)). l) a b
+LogGoes bytes held appends cuts looks a b Pop (Item sga) = (b ≡ record a { disk = b.disk }) × looks a.disk b.disk × (bytes b.disk ≡ bytes a.disk) × (held b.disk ≡ held a.disk)
+LogGoes bytes held appends cuts looks a b Pop Fault = (b ≡ record a { disk = b.disk }) × looks a.disk b.disk × (bytes b.disk ≡ bytes a.disk) × (held b.disk ≡ held a.disk)
+LogGoes bytes held appends cuts looks a b (Truncate keep) Cut =
+    cuts a.disk (place_of a.ends keep) true b.disk × outside.Cut (bytes a.disk) (bytes b.disk) (held b.disk) (place_of a.ends keep) × Turns bytes (take keep) a b
+LogGoes bytes held appends cuts looks a b (Truncate keep) Fault =
+    cuts a.disk (place_of a.ends keep) false b.disk × (outside.Cut (bytes a.disk) (bytes b.disk) (held b.disk) (place_of a.ends keep) ⊎ ((bytes b.disk ≡ bytes a.disk) × (held b.disk ≡ held a.disk)))
+LogGoes bytes held appends cuts looks a b op o = b ≡ a
 
--- What an operation does. The numbers of the pass account for its segments. The disk's count does not fall, and the outcome is a
--- fault only where it rose; it is NoSlot only where each slot of a class was found owned in this very call.
-pub record Moves {D : Type 0} (bytes : D → Option (List ℕ)) (faults : D → ℕ) (appends : D → List ℕ → Bool → D → Type 0) (cuts : D → ℕ → Bool → D → Type 0) (looks : D → D → Type 0) (a b : Logged D) (v w : PassValue) (op : LogOp) (o : LogOut) : Type 0 where
+-- how many bytes the entry at the cursor has
+abbrev pub next_size : Standing → ℕ
+next_size s = length (get_or s.payloads s.cursor [])
+
+-- What an operation does where s stood. The numbers of the pass account for its segments. The disk's count does not fall, and the
+-- outcome is a fault only where it rose; it is NoSlot only where each slot of a class that the entry at the cursor needs was found
+-- owned in this very call.
+pub record Moves {D : Type 0} (bytes : D → Option (List ℕ)) (held faults : D → ℕ) (appends : D → List ℕ → Bool → D → Type 0) (cuts : D → ℕ → Bool → D → Type 0) (looks : D → D → Type 0) (s : Standing) (a b : Logged D) (v w : PassValue) (op : LogOp) (o : LogOut) : Type 0 where
   pub pass : Accounts v w (op_segments op) (out_segments o)
   pub later : faults a.disk ≤ faults b.disk
   pub fault : o ≡ Fault → Rose (faults a.disk) (faults b.disk)
-  pub none : o ≡ NoSlot → FoundNone v w
-  pub log : LogGoes bytes appends cuts looks a b op o
+  pub none : o ≡ NoSlot → FoundNone v w (next_size s)
+  pub log : LogGoes bytes held appends cuts looks a b op o
 
 -- the log has just these payloads
 pub record IsWhole {D : Type 0} (told : Option (List ℕ)) (log : Logged D) (b : LogBasis) (s : Standing) : Type 0 where

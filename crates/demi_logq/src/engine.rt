@@ -1,5 +1,5 @@
 //! The engine of a log's queue.
-ghost use Rattle.std.specs.Prelude.{◌≡◌, []};
+ghost use Rattle.std.specs.Prelude.{◌≡◌, [], IfErr, IfOk, IsOk};
 ghost use Rattle.demi_logq.specs.Engine.{basis_of};
 ghost use Rattle.demi_logq.specs.Logged.{Holds, IsSound};
 
@@ -10,6 +10,7 @@ use demi_core::{Disk, NoMemory};
 use demi_device::{Done, Engine, Mark};
 use demi_heap::{Heap, HeapPass};
 use demi_port_core::Place;
+use std::alloc::Global;
 use std::marker::Model;
 use std::sync::Wait;
 
@@ -33,19 +34,28 @@ impl<'h, D: Disk> Model for LogEngine<'h, D> {
 
 impl<'h, D: Disk> LogEngine<'h, D> {
     /// An engine over a log in which nothing is staged and of which no commit and no cut has failed, with a pass of the heap of its
-    /// arrays. Its cursor is at the first entry. It takes no memory.
+    /// arrays. Its cursor is at the first entry. Log and pass come back where memory was refused, and for no other cause;
+    /// today it takes no memory, so that it is not refused.
     ///
     /// What it stands on is of this log: the payloads of its entries, where the disk tells its bytes, and else some of their lengths.
-    pub fn make(log: Log<D>, heap: &'h Heap, pass: HeapPass) -> LogEngine<'h, D>
+    pub fn make(
+        alloc: Global,
+        log: Log<D>,
+        heap: &'h Heap,
+        pass: HeapPass,
+    ) -> Result<LogEngine<'h, D>, (Log<D>, HeapPass)>
         requires sound { IsSound log }
         requires staged { log.staged ≡ [] }
         requires heap { pass.heap ≡ heap.now }
-        ensures made { result ≡ record { log = log; pass = pass; base = basis_of D.bytes log heap.now; served = []; finished = [] } }
-        ensures payloads { Holds (D.bytes log.disk) log.ends result.base.payloads }
+        ensures made { IfOk result (λ e. e ≡ record { log = log; pass = pass; base = basis_of D.bytes log heap.now; served = []; finished = [] }) }
+        ensures payloads { IfOk result (λ e. Holds (D.bytes log.disk) log.ends e.base.payloads) }
+        ensures back { IfErr result (λ r. (r.0 ≡ log) × (r.1 ≡ pass)) }
+        ensures sure { IsOk result }
     {
+        let _ = alloc;
         let _entries = log.count();
         let past = no_past(&log, heap);
-        LogEngine {
+        Ok(LogEngine {
             queue: Queue {
                 log,
                 heap,
@@ -55,7 +65,7 @@ impl<'h, D: Disk> LogEngine<'h, D> {
                 stop: None,
             },
             past,
-        }
+        })
     }
 
     /// The log and the pass.
@@ -91,7 +101,7 @@ impl<'h, D: Disk> Engine for LogEngine<'h, D> {
 
     ghost finished = { λ e. e.finished };
 
-    ghost goes = { GoesTo D.bytes D.faults D.appends D.cuts D.looks };
+    ghost goes = { GoesTo D.bytes D.held D.faults D.appends D.cuts D.looks };
 
     ghost tends = { λ a there b. (there ≡ true) × (b ≡ a) };
 
@@ -112,7 +122,7 @@ impl<'h, D: Disk> Engine for LogEngine<'h, D> {
         Ok(())
     }
 
-    ghost goes_self = { goes_self D.bytes D.faults D.appends D.cuts D.looks };
+    ghost goes_self = { goes_self D.bytes D.held D.faults D.appends D.cuts D.looks };
 
-    ghost goes_on = { goes_on D.bytes D.faults D.appends D.cuts D.looks };
+    ghost goes_on = { goes_on D.bytes D.held D.faults D.appends D.cuts D.looks };
 }

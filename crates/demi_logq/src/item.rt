@@ -1,7 +1,7 @@
 //! An entry of a log, read into segments of a heap.
 ghost use Rattle.std.specs.Prelude.{◌≡◌, ◌+◌, ◌-◌, ◌<◌, ◌≤◌, ℕ, List, [], length, take, drop, get_or, false, ◌++◌, ◌∷◌, IfSome, IfOk, IfErr, OnOk};
 ghost use Rattle.demi_core.specs.Outside.{HasCause};
-ghost use Rattle.demi_logq.specs.Items.{Accounts, FoundNone, Took};
+ghost use Rattle.demi_logq.specs.Items.{Accounts, NoneHolds, Took};
 ghost use Rattle.demi_logq.specs.Logged.{Holds};
 
 use crate::Log;
@@ -23,7 +23,7 @@ fn claim_for(heap: &Heap, pass: &mut HeapPass, size: u32) -> Result<AppBuf, NoSl
     requires size { size ≤ 65536 }
     ensures buf { IfOk result (λ a. (a.heap ≡ heap.now) × (length a.bytes ≡ size)) }
     ensures ok { IfOk result (λ _. Accounts pass.old pass.new 0 1) }
-    ensures none { IfErr result (λ _. Accounts pass.old pass.new 0 0 × FoundNone pass.old pass.new) }
+    ensures none { IfErr result (λ _. Accounts pass.old pass.new 0 0 × NoneHolds pass.old pass.new size) }
 {
     let class = if size <= SMALL_BYTES {
         Class::Small
@@ -50,6 +50,7 @@ fn read_into<D: Disk>(log: &mut Log<D>, i: u64, from: usize, buf: &mut AppBuf) -
     ensures bytes { OnOk result ((payloads : List (List ℕ)) → Holds (D.bytes log.old.disk) log.old.ends payloads → IfSome (D.bytes log.old.disk) (λ _. buf.new.bytes ≡ take (length buf.old.bytes) (drop from (get_or payloads i [])))) }
     ensures same { log.new ≡ record log.old { disk = log.new.disk } }
     ensures same_bytes { D.bytes log.new.disk ≡ D.bytes log.old.disk }
+    ensures same_held { D.held log.new.disk ≡ D.held log.old.disk }
     ensures calls { D.looks log.old.disk log.new.disk }
     ensures cause { HasCause (D.faults log.old.disk) (D.faults log.new.disk) result }
 {
@@ -75,6 +76,7 @@ fn take_one<D: Disk>(
     ensures took { Took D.bytes D.faults heap.now i log.old log.new pass.old pass.new result }
     ensures same { log.new ≡ record log.old { disk = log.new.disk } }
     ensures same_bytes { D.bytes log.new.disk ≡ D.bytes log.old.disk }
+    ensures same_held { D.held log.new.disk ≡ D.held log.old.disk }
     ensures calls { D.looks log.old.disk log.new.disk }
     ensures later { D.faults log.old.disk ≤ D.faults log.new.disk }
 {
@@ -106,6 +108,7 @@ fn read_both<D: Disk>(
     ensures bytes { OnOk result ((payloads : List (List ℕ)) → Holds (D.bytes log.old.disk) log.old.ends payloads → IfSome (D.bytes log.old.disk) (λ _. first.new.bytes ++ rest.new.bytes ≡ get_or payloads i [])) }
     ensures same { log.new ≡ record log.old { disk = log.new.disk } }
     ensures same_bytes { D.bytes log.new.disk ≡ D.bytes log.old.disk }
+    ensures same_held { D.held log.new.disk ≡ D.held log.old.disk }
     ensures calls { D.looks log.old.disk log.new.disk }
     ensures cause { HasCause (D.faults log.old.disk) (D.faults log.new.disk) result }
 {
@@ -141,6 +144,7 @@ fn take_two<D: Disk>(
     ensures took { Took D.bytes D.faults heap.now i log.old log.new pass.old pass.new result }
     ensures same { log.new ≡ record log.old { disk = log.new.disk } }
     ensures same_bytes { D.bytes log.new.disk ≡ D.bytes log.old.disk }
+    ensures same_held { D.held log.new.disk ≡ D.held log.old.disk }
     ensures calls { D.looks log.old.disk log.new.disk }
     ensures later { D.faults log.old.disk ≤ D.faults log.new.disk }
 {
@@ -174,6 +178,7 @@ pub(crate) fn take_item<D: Disk>(
     ensures took { Took D.bytes D.faults heap.now i log.old log.new pass.old pass.new result }
     ensures same { log.new ≡ record log.old { disk = log.new.disk } }
     ensures same_bytes { D.bytes log.new.disk ≡ D.bytes log.old.disk }
+    ensures same_held { D.held log.new.disk ≡ D.held log.old.disk }
     ensures calls { D.looks log.old.disk log.new.disk }
     ensures later { D.faults log.old.disk ≤ D.faults log.new.disk }
 {

@@ -3,7 +3,7 @@ ghost use Rattle.std.specs.Io.KnownBytes.{append_known};
 ghost use Rattle.demi_core.specs.Outside.{HasCause, Rose, GrowsByFront, disk_max};
 ghost use Rattle.demi_spec.specs.LogText.{entries, entry, header};
 ghost use Rattle.demi_logq.specs.Calls.{Committed, Shortened};
-ghost use Rattle.demi_logq.specs.Logged.{Logged, Holds, Stands, Opened, OpenedBy, NotOpenedBy, LeftAs, IsSound, place_of};
+ghost use Rattle.demi_logq.specs.Logged.{Logged, Holds, Stands, Opened, OpenedBy, NotOpenedBy, LeftAs, StandsAs, IsSound, place_of};
 ghost use Rattle.demi_logq.specs.Reading.{IsAhead};
 
 use crate::ahead::{Ahead, ahead_front};
@@ -56,6 +56,7 @@ impl<D: Disk> Log<D> {
     pub fn make(alloc: Global, disk: D, limit: u32) -> Result<Log<D>, (D, LogRefusal)>
         requires limit { (1 ≤ limit) × (limit ≤ 1000000) }
         ensures opened { IfOk result (λ l. Opened (D.bytes disk) (D.bytes l.disk) (D.held l.disk) l.ends) }
+        ensures stands { IfOk result (λ l. StandsAs (D.bytes disk) (D.bytes l.disk) (D.held disk) (D.held l.disk)) }
         ensures fresh { IfOk result (λ l. IsSound l × (l.staged ≡ []) × (l.limit ≡ limit)) }
         ensures calls { IfOk result (λ l. OpenedBy D.looks D.appends (D.held disk) disk l.disk) }
         ensures bad { IfErr result (λ e. (at : ℕ) → e.1 ≡ LogRefusal.BadLog at → IfSome (D.bytes disk) (λ b. entries b ≡ Err at)) }
@@ -112,6 +113,7 @@ impl<D: Disk> Log<D> {
         ensures payload { IfOk result (λ n. (payloads : List (List ℕ)) → Holds (D.bytes self.old.disk) self.old.ends payloads → IfSome (D.bytes self.old.disk) (λ b. take n room.new ≡ get_or payloads i [])) }
         ensures same { self.new ≡ record self.old { disk = self.new.disk } }
         ensures same_bytes { D.bytes self.new.disk ≡ D.bytes self.old.disk }
+        ensures same_held { D.held self.new.disk ≡ D.held self.old.disk }
         ensures calls { D.looks self.old.disk self.new.disk }
         ensures cause { HasCause (D.faults self.old.disk) (D.faults self.new.disk) result }
     {

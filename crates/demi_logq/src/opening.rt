@@ -1,7 +1,7 @@
 ghost use Rattle.std.specs.Prelude.{◌≡◌, ◌≢◌, ◌≤◌, ◌<◌, ℕ, [], vec_capacity, vec_len, IfSome, IfErr, OnOk, OnErr, Err};
 ghost use Rattle.demi_core.specs.Outside.{Rose, disk_max};
 ghost use Rattle.demi_spec.specs.LogText.{entries};
-ghost use Rattle.demi_logq.specs.Logged.{Opened, OpenedBy, NotOpenedBy, LeftAs};
+ghost use Rattle.demi_logq.specs.Logged.{Opened, OpenedBy, NotOpenedBy, LeftAs, StandsAs};
 
 use crate::ahead::Ahead;
 use crate::find::find_entries;
@@ -19,6 +19,7 @@ pub(crate) fn open<D: Disk>(
     requires none { ends.old.items ≡ [] }
     requires ahead { (ahead.old.count ≡ 0) × (4 ≤ vec_len ahead.old.room) }
     ensures opened { OnOk result (Opened (D.bytes disk.old) (D.bytes disk.new) (D.held disk.new) ends.new.items) }
+    ensures stands { OnOk result (StandsAs (D.bytes disk.old) (D.bytes disk.new) (D.held disk.old) (D.held disk.new)) }
     ensures most { OnOk result (D.held disk.new ≤ disk_max) }
     ensures room { OnOk result (limit ≤ vec_capacity ends.new) }
     ensures calls { OnOk result (OpenedBy D.looks D.appends (D.held disk.old) disk.old disk.new) }

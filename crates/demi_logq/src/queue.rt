@@ -54,7 +54,7 @@ impl<'h, D: Disk> Queue<'h, D> {
         requires calm { (self.old.stop ≡ None) × (self.old.fault ≡ None) }
         requires proper { AreOf self.old.heap.now sga }
         ensures answered { Answered base.now.value.told base.now.value.heap base.now.value.limit place.0 (push sga) stands.now.value (λ s. Shows (D.bytes self.new.log.disk) self.new.log self.new.heap.now self.new.pass base.now.value s self.new.cursor self.new.fault self.new.stop) result }
-        ensures moves { Moves D.bytes D.faults D.appends D.cuts D.looks self.old.log self.new.log self.old.pass self.new.pass (push sga) result }
+        ensures moves { Moves D.bytes D.held D.faults D.appends D.cuts D.looks stands.now.value self.old.log self.new.log self.old.pass self.new.pass (push sga) result }
     {
         let size = sga.len() as usize;
         if size == 0 || size > MAX_PAYLOAD_BYTES {
@@ -80,7 +80,7 @@ impl<'h, D: Disk> Queue<'h, D> {
         requires shows { Shows (D.bytes self.old.log.disk) self.old.log self.old.heap.now self.old.pass base.now.value stands.now.value self.old.cursor self.old.fault self.old.stop }
         requires calm { (self.old.stop ≡ None) × (self.old.fault ≡ None) }
         ensures answered { Answered base.now.value.told base.now.value.heap base.now.value.limit place.0 pop stands.now.value (λ s. Shows (D.bytes self.new.log.disk) self.new.log self.new.heap.now self.new.pass base.now.value s self.new.cursor self.new.fault self.new.stop) result }
-        ensures moves { Moves D.bytes D.faults D.appends D.cuts D.looks self.old.log self.new.log self.old.pass self.new.pass pop result }
+        ensures moves { Moves D.bytes D.held D.faults D.appends D.cuts D.looks stands.now.value self.old.log self.new.log self.old.pass self.new.pass pop result }
     {
         if self.cursor == self.log.count() {
             return LogOut::AtEnd;
@@ -109,7 +109,7 @@ impl<'h, D: Disk> Queue<'h, D> {
         requires shows { Shows (D.bytes self.old.log.disk) self.old.log self.old.heap.now self.old.pass base.now.value stands.now.value self.old.cursor self.old.fault self.old.stop }
         requires calm { (self.old.stop ≡ None) × (self.old.fault ≡ None) }
         ensures answered { Answered base.now.value.told base.now.value.heap base.now.value.limit place.0 (seek index) stands.now.value (λ s. Shows (D.bytes self.new.log.disk) self.new.log self.new.heap.now self.new.pass base.now.value s self.new.cursor self.new.fault self.new.stop) result }
-        ensures moves { Moves D.bytes D.faults D.appends D.cuts D.looks self.old.log self.new.log self.old.pass self.new.pass (seek index) result }
+        ensures moves { Moves D.bytes D.held D.faults D.appends D.cuts D.looks stands.now.value self.old.log self.new.log self.old.pass self.new.pass (seek index) result }
     {
         if index > self.log.count() {
             return LogOut::BadIndex;
@@ -128,7 +128,7 @@ impl<'h, D: Disk> Queue<'h, D> {
         requires shows { Shows (D.bytes self.old.log.disk) self.old.log self.old.heap.now self.old.pass base.now.value stands.now.value self.old.cursor self.old.fault self.old.stop }
         requires calm { (self.old.stop ≡ None) × (self.old.fault ≡ None) }
         ensures answered { Answered base.now.value.told base.now.value.heap base.now.value.limit place.0 (truncate keep) stands.now.value (λ s. Shows (D.bytes self.new.log.disk) self.new.log self.new.heap.now self.new.pass base.now.value s self.new.cursor self.new.fault self.new.stop) result }
-        ensures moves { Moves D.bytes D.faults D.appends D.cuts D.looks self.old.log self.new.log self.old.pass self.new.pass (truncate keep) result }
+        ensures moves { Moves D.bytes D.held D.faults D.appends D.cuts D.looks stands.now.value self.old.log self.new.log self.old.pass self.new.pass (truncate keep) result }
     {
         if keep > self.log.count() {
             return LogOut::BadIndex;
@@ -153,7 +153,7 @@ impl<'h, D: Disk> Queue<'h, D> {
         requires shows { Shows (D.bytes self.old.log.disk) self.old.log self.old.heap.now self.old.pass base.now.value stands.now.value self.old.cursor self.old.fault self.old.stop }
         requires calm { self.old.stop ≡ None }
         ensures answered { Answered base.now.value.told base.now.value.heap base.now.value.limit place.0 stop stands.now.value (λ s. Shows (D.bytes self.new.log.disk) self.new.log self.new.heap.now self.new.pass base.now.value s self.new.cursor self.new.fault self.new.stop) result }
-        ensures moves { Moves D.bytes D.faults D.appends D.cuts D.looks self.old.log self.new.log self.old.pass self.new.pass stop result }
+        ensures moves { Moves D.bytes D.held D.faults D.appends D.cuts D.looks stands.now.value self.old.log self.new.log self.old.pass self.new.pass stop result }
     {
         self.stop = Some(place);
         LogOut::Halted
@@ -171,7 +171,7 @@ impl<'h, D: Disk> Queue<'h, D> {
         requires at { self.old.stop ≡ Some at }
         requires proper { IsProper base.now.value op }
         ensures answered { Answered base.now.value.told base.now.value.heap base.now.value.limit place.0 op stands.now.value (λ s. Shows (D.bytes self.new.log.disk) self.new.log self.new.heap.now self.new.pass base.now.value s self.new.cursor self.new.fault self.new.stop) result }
-        ensures moves { Moves D.bytes D.faults D.appends D.cuts D.looks self.old.log self.new.log self.old.pass self.new.pass op result }
+        ensures moves { Moves D.bytes D.held D.faults D.appends D.cuts D.looks stands.now.value self.old.log self.new.log self.old.pass self.new.pass op result }
     {
         release_op(self.heap, &mut self.pass, op, base);
         LogOut::Stopped(at)
@@ -189,7 +189,7 @@ impl<'h, D: Disk> Queue<'h, D> {
         requires at { (self.old.stop ≡ None) × (self.old.fault ≡ Some at) }
         requires proper { IsProper base.now.value op }
         ensures answered { Answered base.now.value.told base.now.value.heap base.now.value.limit place.0 op stands.now.value (λ s. Shows (D.bytes self.new.log.disk) self.new.log self.new.heap.now self.new.pass base.now.value s self.new.cursor self.new.fault self.new.stop) result }
-        ensures moves { Moves D.bytes D.faults D.appends D.cuts D.looks self.old.log self.new.log self.old.pass self.new.pass op result }
+        ensures moves { Moves D.bytes D.held D.faults D.appends D.cuts D.looks stands.now.value self.old.log self.new.log self.old.pass self.new.pass op result }
     {
         match op {
             LogOp::Push { sga } => {
@@ -214,7 +214,7 @@ impl<'h, D: Disk> Queue<'h, D> {
         requires shows { Shows (D.bytes self.old.log.disk) self.old.log self.old.heap.now self.old.pass base.now.value stands.now.value self.old.cursor self.old.fault self.old.stop }
         requires proper { IsProper base.now.value op }
         ensures answered { Answered base.now.value.told base.now.value.heap base.now.value.limit place.0 op stands.now.value (λ s. Shows (D.bytes self.new.log.disk) self.new.log self.new.heap.now self.new.pass base.now.value s self.new.cursor self.new.fault self.new.stop) result }
-        ensures moves { Moves D.bytes D.faults D.appends D.cuts D.looks self.old.log self.new.log self.old.pass self.new.pass op result }
+        ensures moves { Moves D.bytes D.held D.faults D.appends D.cuts D.looks stands.now.value self.old.log self.new.log self.old.pass self.new.pass op result }
     {
         if let Some(at) = self.stop {
             return self.stopped(at, place, op, base, stands);

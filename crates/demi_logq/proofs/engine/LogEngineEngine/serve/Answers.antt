@@ -2,7 +2,7 @@ use Rattle.std.proofs.Common.{◌≡◌, [], ◌∷◌, length, ap, sym, ◌∙�
 use Rattle.demi_logq.specs.Answers.{LogBasis}
 use Rattle.demi_logq.specs.Folding.{Standing}
 use Rattle.demi_logq.specs.Engine.{EngineValue, GoesTo, IsServed, PastValue}
-use Rattle.demi_logq.specs.Queues.{Shows}
+use Rattle.demi_logq.specs.Queues.{Moves, Shows}
 use Rattle.demi_logq.proofs.Pasts.{after, comes_on, one_added, past_on, served_on, shows_on}
 use Rattle.demi_logq.proofs.Steps.{none_pends}
 use Rattle.demi_logq.proofs.engine.LogEngineEngine.serve.Given as given
@@ -43,7 +43,7 @@ pub returns-clause-goes : goal.returns-clause-goes
 returns-clause-goes g c =
     let q = c.answer-out.new.self in let w = c.finished.result.value in let e = now g c in
     let b : EngineValue g.row.D.Denot = record { log = q.log; pass = q.pass; base = w.base; served = w.served; finished = w.finished } in
-    subst (λ (a : EngineValue g.row.D.Denot). GoesTo g.D.Disk.bytes g.D.Disk.faults g.D.Disk.appends g.D.Disk.cuts g.D.Disk.looks a b) c.self.view_is (
+    subst (λ (a : EngineValue g.row.D.Denot). GoesTo g.D.Disk.bytes g.D.Disk.held g.D.Disk.faults g.D.Disk.appends g.D.Disk.cuts g.D.Disk.looks a b) c.self.view_is (
       (c.args.op, c.answer-out.result) ∷ [],
       (
         b,
@@ -51,7 +51,7 @@ returns-clause-goes g c =
           base = ap (λ (z : PastValue). z.base) e;
           served = ap (λ (z : PastValue). z.served) e;
           finished = ap (λ (z : PastValue). z.finished) e;
-          moves = c.answer-out.ensures.moves;
+          moves = subst (λ (s : Standing). Moves g.D.Disk.bytes g.D.Disk.held g.D.Disk.faults g.D.Disk.appends g.D.Disk.cuts g.D.Disk.looks s c.self.inside.queue.log q.log c.self.inside.queue.pass q.pass c.args.op c.answer-out.result) c.stands_of-stands.ensures c.answer-out.ensures.moves;
         },
         refl,
       ),

@@ -1,10 +1,10 @@
-use Rattle.std.proofs.Common.{ℕ, ◌+◌, List, [], get_or, ap, sym, ◌∙◌, subst, arith, refl}
+use Rattle.std.proofs.Common.{ℕ, ◌+◌, List, [], length, get_or, ap, sym, ◌∙◌, subst, arith, refl}
 use Rattle.std.specs.Prelude.{Bool, Option, option_map}
 use Rattle.demi_heap.specs.Seen.{HeapId}
 use Rattle.demi_port_core.specs.declared.place.Place.{Place}
 use Rattle.demi_logq.specs.Logged.{Logged, Holds}
 use Rattle.demi_logq.specs.Answers.{IsItem}
-use Rattle.demi_logq.specs.Items.{tells}
+use Rattle.demi_logq.specs.Items.{FoundNone, tells}
 use Rattle.demi_logq.proofs.Saying.{payloads_count, at_end, no_slot, pop_failed, popped}
 use Rattle.demi_logq.proofs.queue.Queue.pop.Goals as goal
 
@@ -78,6 +78,17 @@ returns-in-NoSlot-clause-answered g c =
             (subst (λ (l : List ℕ). Holds (g.D.Disk.bytes c.args.self.now.log.disk) l s.payloads) (ap (λ (l : Logged g.row.D.Denot). l.ends) (sym c.in-NoSlot.ensures.same)) w.holds);
       };
     })
+
+pub returns-in-NoSlot-clause-moves : goal.returns-in-NoSlot-clause-moves
+returns-in-NoSlot-clause-moves g c =
+    let r = c.requires.shows in let s = c.args.stands.now.value in let took = c.in-NoSlot.ensures.took in
+    let log = c.args.self.now.log in record {
+      pass = took.0;
+      later = c.take_item-taken.ensures.later;
+      fault = λ e. absurd (cc);
+      none = λ e. subst (λ (k : ℕ). FoundNone c.args.self.now.pass c.take_item-taken.new.pass (length (get_or s.payloads k []))) r.cursor_is (took.1 s.payloads (r.whole c.requires.calm.1).holds);
+      log = took.2;
+    }
 
 pub returns-in-Fault-clause-answered : goal.returns-in-Fault-clause-answered
 returns-in-Fault-clause-answered g c =

@@ -36,7 +36,7 @@ returns-in-Ok-clause-answered g c =
       whole = λ e. record {
         torn = ap (λ (l : Logged g.row.D.Denot). l.torn) d.now ∙ w.torn;
         lost = ap (λ (l : Logged g.row.D.Denot). l.lost) d.now ∙ w.lost;
-        told_is = w.told_is ∙ sym (tells_map (take (place_of c.args.self.now.log.ends c.args.keep)) _ _ d.bytes_are);
+        told_is = w.told_is ∙ sym (tells_map (take (place_of c.args.self.now.log.ends c.args.keep)) _ _ d.disk.bytes);
         holds = d.holds s.payloads w.holds;
       };
     })
