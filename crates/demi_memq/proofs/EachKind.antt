@@ -21,6 +21,12 @@ ltb_yes a b lt = grind (arith, nat_tests)
 pub ltb_no : (a b : ℕ) → b ≤ a → ltb a b ≡ false
 ltb_no a b le = grind (arith, nat_tests)
 
+pub ltb_less : (a b : ℕ) → ltb a b ≡ true → a < b
+ltb_less a b e = grind (arith, nat_tests)
+
+pub ltb_full : (a b : ℕ) → ltb a b ≡ false → b ≤ a
+ltb_full a b e = grind (arith, nat_tests)
+
 -- the one outcome that was added
 pub one_added : {A : Type 0} (old new : List (ℕ × A)) (k n : ℕ) (o : A) → new ≡ old ++ (k, o) ∷ [] → old ≡ [] → k ≡ n → new ≡ (n, o) ∷ []
 one_added old new k n o is none same = is ∙ ap (λ l. l ++ (k, o) ∷ []) none ∙ ap (λ i. (i, o) ∷ []) same

@@ -11,7 +11,7 @@ use Rattle.demi_memq.specs.Said.{is_stop, out_said}
 use Rattle.demi_memq.specs.Counting.{beside, has, Counts, none_yet, pushed, popped, counted, counts_from, counts, item_or, result_at, has_room}
 use Rattle.demi_memq.specs.Steady.{append_none}
 use Rattle.demi_memq.specs.Rooms.{rest, on, Once, Pends, IsPop, AllPops, Agrees, Stands, RoomsShow, Came, Mid}
-use Rattle.demi_memq.proofs.Lists.{self_test, by_test, by_number, beside_same, beside_other, rest_length, drop_head, get_drop, get_none, get_last, no_outcome, has_none, places_append}
+use Rattle.demi_memq.proofs.Lists.{self_test, by_test, by_number, beside_same, beside_other, rest_length, drop_head, get_drop, get_none, get_last, no_outcome, has_none, none_beside, places_append}
 use Rattle.demi_memq.proofs.Moves.{once_new, once_ask, once_done, once_place, come_more, pop_result, pops_more}
 
 -- a pop that waits is one of its queue's
@@ -123,12 +123,18 @@ ended m p h f made shut (Some s) w n k some lt pends = let a = k.once.below p lt
 pub none_pends : (m : ℕ) (h : List MemOp) (f : List (ℕ × MemOut)) (made : ℕ) (shut : List Bool) (stop : Option ℕ) (w : List (ℕ × List HalfValue)) (n : List (ℕ × ℕ)) → RoomsShow m h f made shut stop w n → HasStop is_stop h → NonePends (length h) (places f)
 none_pends m h f made shut stop w n k some p lt pends = ended m p h f made shut stop w n k (λ e. some (sym (kept_stop m h f made shut stop w n k) ∙ e)) lt pends
 
-none_beside : (w : List (ℕ × List HalfValue)) → ((q : ℕ) → beside q w ≡ []) → w ≡ []
-none_beside [] f = refl
-none_beside (e ∷ es) f = let a = ap (λ b. cond b (e.1 ∷ beside e.0 es) (beside e.0 es)) (self_test e.0) in let bad : e.1 ∷ beside e.0 es ≡ [] = sym a ∙ f e.0 in absurd (cc)
-
 -- no item waits after a stop, nor where nothing was served
 pub none_waits : (m : ℕ) (h : List MemOp) (f : List (ℕ × MemOut)) (made : ℕ) (shut : List Bool) (stop : Option ℕ) (w : List (ℕ × List HalfValue)) (n : List (ℕ × ℕ)) → RoomsShow m h f made shut stop w n → HasStop is_stop h ⊎ (h ≡ []) → w ≡ []
 none_waits m h f made shut (Some s) w n k over = k.stands.1
 none_waits m h f made shut None w n k (inl some) = absurd (some (sym (kept_stop m h f made shut None w n k)))
 none_waits m h f made shut None w n k (inr e) = none_beside w (λ q. k.stands.1.items q ∙ ap (λ l. drop (popped q (counts m l)) (beside q (counts m l).pushes)) e)
+
+-- nor does a pop
+pub none_asks : (m : ℕ) (h : List MemOp) (f : List (ℕ × MemOut)) (made : ℕ) (shut : List Bool) (stop : Option ℕ) (w : List (ℕ × List HalfValue)) (n : List (ℕ × ℕ)) → RoomsShow m h f made shut stop w n → HasStop is_stop h ⊎ (h ≡ []) → n ≡ []
+none_asks m h f made shut (Some s) w n k over = k.stands.2
+none_asks m h f made shut None w n k (inl some) = absurd (some (sym (kept_stop m h f made shut None w n k)))
+none_asks m h f made shut None w n k (inr e) = none_beside n (λ q. k.stands.1.asks q ∙ ap (λ l. cond (has q (counts m l).shut) [] (drop (pushed q (counts m l)) (beside q (counts m l).pops))) e ∙ none_either (has q none_yet.shut))
+  where
+    none_either : (b : Bool) → cond b [] (drop {A = ℕ} 0 []) ≡ []
+    none_either true = refl
+    none_either false = refl

@@ -1,5 +1,6 @@
 pub mod Examples
 pub mod Lists
+pub mod Chaining
 pub mod Moves
 pub mod Agreeing
 pub mod Keeping

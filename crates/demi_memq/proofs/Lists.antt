@@ -1,5 +1,5 @@
 -- Lists of pairs by their first part, and places that have one outcome each.
-use Rattle.std.proofs.Common.{◌≡◌, ◌≢◌, ℕ, zero, suc, ◌+◌, ◌<◌, ◌≤◌, List, [], ◌∷◌, ◌++◌, length, take, drop, get_or, Some, None, Bool, true, false, cond, refl, sym, ap, ◌∙◌, arith, subst}
+use Rattle.std.proofs.Common.{◌≡◌, ◌≢◌, ℕ, zero, suc, ◌+◌, ◌<◌, ◌≤◌, List, [], ◌∷◌, ◌++◌, length, take, drop, get_or, Some, None, Bool, true, false, cond, refl, sym, ap, ◌∙◌, arith, subst, ◌⊎◌, inl, inr}
 use Rattle.std.specs.Prelude.{◌==◌, slice_get}
 use borrow.Author.Tests.{eqb-true, eqb-false}
 use Rattle.std.proofs.lemmas.Bool.{ne_eqb}
@@ -127,43 +127,21 @@ on_rest j q p r (d ∷ ds) e =
     (λ s e'. let same : d.1 ≡ p = cc in ap (λ k. cond (k == j) 1 0 + on j ds) same) (λ s e'. let h = on_rest j q p r ds e' in omega arith) e
 
 module _ {X : Type 0} where
-  -- none of the first i stands beside q
-  abbrev pub Skips : ℕ → ℕ → List (ℕ × X) → Type 0
-  Skips q zero l = Unit {0}
-  Skips q (suc i) [] = Unit {0}
-  Skips q (suc i) (e ∷ es) = (e.0 ≢ q) × Skips q i es
-
-  skips_suc : (q i : ℕ) (l : List (ℕ × X)) (d : ℕ × X) → Skips q i l → (get_or l i d).0 ≢ q → Skips q (suc i) l
-  skips_suc q i [] d s ne = tt
-  skips_suc q zero (e ∷ es) d s ne = (ne, tt)
-  skips_suc q (suc i) (e ∷ es) d s ne = (s.0, skips_suc q i es d s.1 ne)
-
-  pub skips_more : (q i : ℕ) (l : List (ℕ × X)) (d : ℕ × X) → Skips q i l → (get_or l i d).0 ≢ q → Skips q (i + 1) l
-  skips_more q i l d s ne = let n : suc i ≡ i + 1 = omega arith in subst (λ k. Skips q k l) n (skips_suc q i l d s ne)
-
-  pub skips_found : (q i : ℕ) (l : List (ℕ × X)) (d : ℕ × X) → Skips q i l → i < length l → (get_or l i d).0 ≡ q → (rest q l ≡ take i l ++ drop (suc i) l) × (beside q l ≡ (get_or l i d).1 ∷ beside q (take i l ++ drop (suc i) l))
-  skips_found q i [] d s lt is = absurd (omega arith)
-  skips_found q zero (e ∷ es) d s lt is = let t : (e.0 == q) ≡ true = ap (λ k. k == q) is ∙ self_test q in (ap (λ b. cond b es (e ∷ rest q es)) t, ap (λ b. cond b (e.1 ∷ beside q es) (beside q es)) t)
-  skips_found q (suc i) (e ∷ es) d s lt is =
-      let t : (e.0 == q) ≡ false = ne_eqb e.0 q s.0 in let h = skips_found q i es d s.1 (omega arith) is in
-      (ap (λ b. cond b es (e ∷ rest q es)) t ∙ ap (λ l. e ∷ l) h.0, ap (λ b. cond b (e.1 ∷ beside q es) (beside q es)) t ∙ h.1 ∙ ap (λ l. (get_or es i d).1 ∷ l) (sym (ap (λ b. cond b (e.1 ∷ beside q (take i es ++ drop (suc i) es)) (beside q (take i es ++ drop (suc i) es))) t)))
-
-  pub skips_all : (q i : ℕ) (l : List (ℕ × X)) → Skips q i l → length l ≤ i → beside q l ≡ []
-  skips_all q zero [] s le = refl
-  skips_all q zero (e ∷ es) s le = absurd (omega arith)
-  skips_all q (suc i) [] s le = refl
-  skips_all q (suc i) (e ∷ es) s le = ap (λ b. cond b (e.1 ∷ beside q es) (beside q es)) (ne_eqb e.0 q s.0) ∙ skips_all q i es s.1 (omega arith)
-
   pub got_any : (l : List X) (i : ℕ) (d e : X) → i < length l → get_or l i d ≡ get_or l i e
   got_any [] i d e lt = absurd (omega arith)
   got_any (x ∷ xs) zero d e lt = refl
   got_any (x ∷ xs) (suc i) d e lt = got_any xs i d e (omega arith)
 
-  -- what is taken out of a ring
-  pub taken_out : (q i : ℕ) (l m : List (ℕ × X)) (d : ℕ × X) (x : ℕ × X) → Skips q i l → i < length l → d ≡ get_or l i d → d.0 ≡ q → x ≡ get_or l i x → m ≡ take i l ++ drop (suc i) l → (m ≡ rest q l) × (beside q l ≡ x.1 ∷ beside q m)
-  taken_out q i l m d x s lt here is item after =
-      let f = skips_found q i l d s lt (ap (λ e. e.0) (sym here) ∙ is) in
-      (after ∙ sym f.0, f.1 ∙ ap (λ e. e.1 ∷ beside q (take i l ++ drop (suc i) l)) (Rattle.demi_memq.proofs.Lists.got_any l i d x lt ∙ sym item) ∙ ap (λ m. x.1 ∷ beside q m) (sym after))
+  pub none_beside : (l : List (ℕ × X)) → ((q : ℕ) → beside q l ≡ []) → l ≡ []
+  none_beside [] f = refl
+  none_beside (e ∷ es) f = let a = ap (λ b. cond b (e.1 ∷ beside e.0 es) (beside e.0 es)) (self_test e.0) in let bad : e.1 ∷ beside e.0 es ≡ [] = sym a ∙ f e.0 in absurd (cc)
+
+  -- nothing stands beside the first n numbers, nor beside the others
+  pub none_at_all : (n : ℕ) (l : List (ℕ × X)) → ((q : ℕ) → q < n → beside q l ≡ []) → ((q : ℕ) → n ≤ q → beside q l ≡ []) → l ≡ []
+  none_at_all n l f g = none_beside l (λ q. elim (below_or n q) [ inl lt ↦ f q lt | inr le ↦ g q le ])
+    where
+      below_or : (n q : ℕ) → (q < n) ⊎ (n ≤ q)
+      below_or n q = grind arith
 
 pub places_append : {X : Type 0} (f g : List (ℕ × X)) → places (f ++ g) ≡ places f ++ places g
 places_append [] g = refl

@@ -1,6 +1,7 @@
 -- What arrays say, and how many segments they have, one operation further.
 use Rattle.std.proofs.Common.{◌≡◌, ℕ, suc, ◌+◌, List, [], ◌∷◌, ◌++◌, length, cond, refl, sym, ap, ◌∙◌, arith, subst}
-use Rattle.std.specs.Prelude.{◌==◌, map}
+use Rattle.std.specs.Prelude.{◌==◌, map, Option, Some, None}
+use Rattle.demi_port_core.specs.declared.place.Place.{Place}
 use Rattle.demi_heap.specs.Seen.{HeapId, HalfValue, PassValue}
 use Rattle.demi_sga.specs.Arrays.{AreOf, returned_by}
 use Rattle.demi_memq.specs.declared.op.MemOp.{MemOp}
@@ -10,7 +11,7 @@ use Rattle.demi_memq.specs.Counting.{beside}
 use Rattle.demi_memq.specs.Rooms.{rest}
 use Rattle.demi_memq.specs.Said.{IsFrom, IsProper, array_said, op_said}
 use Rattle.demi_memq.specs.Segments.{brought, given, held, op_segments, out_segments}
-use Rattle.demi_memq.specs.Serving.{Accounts, GivenOf, ItemsOf, items_said}
+use Rattle.demi_memq.specs.Serving.{Accounts, GivenOf, ItemsOf, items_said, ends_as}
 use Rattle.demi_memq.proofs.Lists.{by_test}
 
 pub said_beside : (q : ℕ) (l : List (ℕ × List HalfValue)) → beside q (items_said l) ≡ map array_said (beside q l)
@@ -109,3 +110,11 @@ pub item_of : (h : HeapId) (q : ℕ) (x : List HalfValue) (r : List (List HalfVa
 item_of h q x r [] i e = absurd (cc)
 item_of h q x r (d ∷ ds) i e =
     by_test (λ b. cond b (d.1 ∷ beside q ds) (beside q ds) ≡ x ∷ r → AreOf h x) (d.0 == q) (λ s e'. let same : d.1 ≡ x = cc in subst (AreOf h) same i.0) (λ s e'. item_of h q x r ds i.1 e') e
+
+pub ends_give : (stop : Option Place) → out_segments (ends_as stop) ≡ 0
+ends_give None = refl
+ends_give (Some p) = refl
+
+pub ends_from : (h : HeapId) (stop : Option Place) → IsFrom h (ends_as stop)
+ends_from h None = tt
+ends_from h (Some p) = tt

@@ -1,5 +1,6 @@
 pub mod Said
 pub mod Counting
+pub mod Chains
 pub mod Steady
 pub mod Rooms
 pub mod Segments

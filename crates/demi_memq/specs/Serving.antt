@@ -1,14 +1,17 @@
 -- What the rooms of memory queues keep, and what they add.
-use Rattle.std.specs.Prelude.{◌≡◌, ◌≢◌, ℕ, ◌+◌, ◌<◌, List, [], ◌∷◌, ◌++◌, Some, length, slice_get, option_map}
+use Rattle.std.specs.Prelude.{◌≡◌, ◌≢◌, ℕ, ◌+◌, ◌<◌, List, [], ◌∷◌, ◌++◌, Option, Some, None, length, slice_get, option_map}
 use Rattle.demi_heap.specs.Seen.{HeapId, HalfValue, PassValue}
 use Rattle.demi_port_core.specs.History.{Each}
+use Rattle.demi_port_core.specs.declared.place.Place.{Place}
 use Rattle.demi_device.specs.Serving.{DoneValue}
 use Rattle.demi_sga.specs.Arrays.{AreOf}
 use Rattle.demi_memq.specs.Said.{IsFrom, array_said, out_said}
 use Rattle.demi_memq.specs.Segments.{given, held}
 use Rattle.demi_memq.specs.Counting.{beside, result_at}
 use Rattle.demi_memq.specs.declared.op.MemOp.{MemOp}
+use Rattle.demi_memq.specs.declared.op.MemOp.TheVariants.{Close, Stop}
 use Rattle.demi_memq.specs.declared.out.MemOut.{MemOut}
+use Rattle.demi_memq.specs.declared.out.MemOut.TheVariants.{Closed, Stopped}
 use Rattle.demi_memq.specs.declared.queues.Queues.{Queues}
 use Rattle.demi_memq.specs.Rooms.{RoomsShow, Came}
 
@@ -50,8 +53,18 @@ Owes h op q n o = (i p : ℕ) → slice_get (beside q n) i ≡ Some p → result
 abbrev pub OwesAll : List MemOp → MemOp → List (ℕ × ℕ) → MemOut → Type 0
 OwesAll h op n o = (q : ℕ) → Owes h op q n o
 
--- the pops of other queues are the same
-abbrev pub SameOthers : ℕ → List (ℕ × ℕ) → List (ℕ × ℕ) → Type 0
+-- the pops of a queue end as it is closed, or as all is stopped at a place
+abbrev pub ends_by : ℕ → Option Place → MemOp
+ends_by q None = Close q
+ends_by q (Some p) = Stop
+
+-- so they come to this
+abbrev pub ends_as : Option Place → MemOut
+ends_as None = Closed
+ends_as (Some p) = Stopped p
+
+-- what waits in other queues is the same
+abbrev pub SameOthers : {X : Type 0} → ℕ → List (ℕ × X) → List (ℕ × X) → Type 0
 SameOthers q n n' = (j : ℕ) → q ≢ j → beside j n' ≡ beside j n
 
 -- an operation can be served at the place: the rooms are as the history and the outcomes have it, it is the next, and there is room

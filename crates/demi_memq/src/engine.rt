@@ -3,6 +3,7 @@ ghost use Rattle.std.specs.Prelude.{◌≡◌, ◌⊎◌, [], IfErr, IfOk};
 ghost use Rattle.demi_device.specs.Serving.{HasStop};
 ghost use Rattle.demi_memq.specs.Said.{is_stop};
 
+use crate::chains::Chains;
 use crate::heard::{History, Outcomes, finished, heard, no_history, no_outcomes};
 use crate::queues::{MOST_ITEMS, MOST_QUEUES, Queues};
 use crate::{MemLaw, MemOp};
@@ -11,7 +12,6 @@ use demi_device::{Done, Engine};
 use demi_heap::{Heap, HeapPass};
 use demi_port_core::Place;
 use std::alloc::Global;
-use std::collections::VecDeque;
 use std::marker::Model;
 use std::sync::Wait;
 
@@ -50,11 +50,11 @@ impl<'h> MemEngine<'h> {
         let Ok(shut) = Vec::from_elem(alloc, false, MOST_QUEUES as usize) else {
             return Err(pass);
         };
-        let Ok(waiting) = VecDeque::with_capacity(alloc, MOST_ITEMS) else {
+        let Ok(waiting) = Chains::make(alloc, MOST_QUEUES, MOST_ITEMS) else {
             return Err(pass);
         };
-        let Ok(pending) = VecDeque::with_capacity(alloc, c as usize) else {
-            waiting.destroy_empty();
+        let Ok(pending) = Chains::make(alloc, MOST_QUEUES, c) else {
+            waiting.end();
             return Err(pass);
         };
         Ok(MemEngine {
@@ -92,9 +92,10 @@ impl<'h> MemEngine<'h> {
             shut: _,
             stop: _,
             waiting,
-            pending: _,
+            pending,
         } = queues;
-        waiting.destroy_empty();
+        waiting.end();
+        pending.end();
         pass
     }
 }

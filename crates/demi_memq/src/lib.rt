@@ -5,14 +5,17 @@
 //! The layer above may rely on this: each place has at most one outcome that is admitted, and it never changes once it is
 //! there. A pop may wait; nothing else does. `MemEngine` serves a port of this law: its outcomes are exactly those, and no device
 //! half gets lost in it.
-//! Not promised: when a pop that waits is answered, and the time that serving takes.
+//! Not promised: when a pop that waits is answered, and the time that serving takes. It does not grow with what waits: each queue
+//! has a chain of its own.
 #![tactic(auto)]
 
 mod base;
+mod chains;
 mod emptying;
 mod engine;
 mod heard;
 mod law;
+mod nodes;
 mod op;
 mod out;
 mod queues;

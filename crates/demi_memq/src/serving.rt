@@ -6,9 +6,9 @@ ghost use Rattle.demi_memq.specs.Said.{IsProper, array_said, op_said};
 ghost use Rattle.demi_memq.specs.Segments.{op_segments};
 ghost use Rattle.demi_memq.specs.Serving.{IsReady, IsServed};
 
-use crate::emptying::{close_all, release_all, release_op, stop_all};
+use crate::emptying::{end_pops, release_all, release_op, stop_all};
 use crate::heard::{History, Outcomes};
-use crate::queues::{MOST_ITEMS, MOST_QUEUES, Queues, take_first};
+use crate::queues::{MOST_QUEUES, Queues};
 use crate::{MemLaw, MemOp, MemOut};
 use demi_device::Done;
 use demi_port_core::Place;
@@ -53,11 +53,11 @@ impl<'h> Queues<'h> {
             MemOut::BadQueue
         } else if self.shut[q as usize] {
             MemOut::Closed
-        } else if let Some(first) = take_first(&mut self.pending, q) {
+        } else if let Some(first) = self.pending.pop(q) {
             done.add(Place(first), MemOut::Item(sga));
             return done.add(place, MemOut::Pushed);
-        } else if self.waiting.len() < MOST_ITEMS {
-            self.waiting.push_back_reserved((q, sga));
+        } else if self.waiting.has_room() {
+            self.waiting.push(q, sga);
             return done.add(place, MemOut::Pushed);
         } else {
             MemOut::QueueFull
@@ -81,12 +81,12 @@ impl<'h> Queues<'h> {
     {
         if q >= self.made {
             done.add(place, MemOut::BadQueue);
-        } else if let Some(sga) = take_first(&mut self.waiting, q) {
+        } else if let Some(sga) = self.waiting.pop(q) {
             done.add(place, MemOut::Item(sga));
         } else if self.shut[q as usize] {
             done.add(place, MemOut::Closed);
         } else {
-            self.pending.push_back_reserved((q, place.0));
+            self.pending.push(q, place.0);
         }
     }
 
@@ -108,7 +108,7 @@ impl<'h> Queues<'h> {
             done.add(place, MemOut::Closed);
         } else {
             self.shut[q as usize] = true;
-            close_all(&mut self.pending, q, history, outcomes, done);
+            end_pops(&mut self.pending, q, None, history, outcomes, done);
             done.add(place, MemOut::Shut);
         }
     }

@@ -1,27 +1,33 @@
-use Rattle.std.proofs.Common.{◌+◌, ◌≡◌, ◌++◌, ◌∷◌, [], ap, sym, ◌∙◌, subst, arith, length, length-append, Some}
+use Rattle.std.proofs.Common.{◌≡◌, ◌≢◌, ℕ, ◌+◌, ◌<◌, ◌≤◌, ◌++◌, ◌∷◌, [], ap, sym, ◌∙◌, subst, arith, length}
+use Rattle.std.specs.Prelude.{Some, slice_get}
 use Rattle.demi_memq.specs.declared.out.MemOut.TheVariants.{Stopped}
 use Rattle.demi_memq.specs.declared.op.MemOp.TheVariants.{Stop}
-use Rattle.demi_memq.specs.Counting.{result_at}
+use Rattle.demi_memq.specs.Counting.{beside, result_at}
 use Rattle.demi_memq.specs.Rooms.{Mid}
-use Rattle.demi_memq.specs.Serving.{OwesAll}
-use Rattle.demi_memq.specs.Serving.{GivenOf}
-use Rattle.demi_memq.proofs.Ending.{mid_front, front_is, first_at, behind}
-use Rattle.demi_memq.specs.Segments.{given}
-use Rattle.demi_memq.proofs.Saying.{given_more, given_of_more}
+use Rattle.demi_memq.proofs.Lists.{by_number, none_at_all}
 use Rattle.demi_memq.proofs.emptying.stop_all.Goals as goal
 
-pub loop-first-preserved : goal.loop-first-preserved
-loop-first-preserved c =
-    let h = c.args.history.now.value in let f = c.args.outcomes.now.value in let n' = c.pop_front.new.self.items in let q = c.in-Some.field-0-0 in let p = c.in-Some.first in
-    let all : OwesAll h Stop ((q, p) ∷ n') (Stopped c.args.place) = subst (λ l. OwesAll h Stop l (Stopped c.args.place)) c.in-Some.ensures.items c.loop-first.invariant.owed in
-    let m : Mid 1024 h (h ++ Stop ∷ []) f c.loop-first.done.added ((q, p) ∷ n') = subst (λ l. Mid 1024 h (h ++ Stop ∷ []) f c.loop-first.done.added l) c.in-Some.ensures.items c.loop-first.invariant.mid in
-    let d = mid_front 1024 q p h Stop f c.loop-first.done.added n' (Stopped c.args.place) m (all q 0 p (first_at q p ((q, p) ∷ n') n' (front_is q p n'))) in
+pub loop-q-preserved : goal.loop-q-preserved
+loop-q-preserved c =
+    let i = c.loop-q.invariant in let e = c.end_pops.ensures in let q = c.loop-q.q in let n' = c.end_pops.new.pending.items in let next = c.args.history.now.value ++ Stop ∷ [] in
     record {
-      mid = subst (λ l. Mid 1024 h (h ++ Stop ∷ []) f l n') (sym c.add.ensures.added) d;
-      owed = λ j. behind (λ k. result_at 1024 (h ++ Stop ∷ []) k ≡ Some (Stopped c.args.place)) q p j n' (all j);
-      none = ap given c.add.ensures.added ∙ given_more c.loop-first.done.added c.in-Some.first (Stopped c.args.place) ∙ (let z : given c.loop-first.done.added + 0 ≡ given c.loop-first.done.added = omega arith in z) ∙ c.loop-first.invariant.none;
-      from = λ k old. subst (GivenOf k) (sym c.add.ensures.added) (given_of_more k c.loop-first.done.added c.in-Some.first (Stopped c.args.place) (c.loop-first.invariant.from k old) tt);
-      room = c.add.ensures.room ∙ c.loop-first.invariant.room;
-      holds = let e = ap length c.add.ensures.added in let l = length-append c.loop-first.done.added ((p, Stopped c.args.place) ∷ []) in let less = c.in-Some.ensures.cases in let old = c.loop-first.invariant.holds in let room = c.add.ensures.room in omega arith;
-      cap = c.pop_front.ensures.capacity ∙ c.loop-first.invariant.cap;
+      mid = e.mid;
+      owed = λ j. by_number (λ j. (k p : ℕ) → slice_get (beside j n') k ≡ Some p → result_at 1024 next p ≡ Some (Stopped c.args.place)) q j
+          (λ k p is. let none : slice_get {X = ℕ} [] k ≡ Some p = ap (λ l. slice_get l k) (sym e.gone) ∙ is in absurd (cc))
+          (λ ne k p is. i.owed j k p (ap (λ l. slice_get l k) (sym (e.others j ne)) ∙ is));
+      below = λ j. by_number (λ j. j < q + 1 → beside j n' ≡ []) q j (λ _. e.gone) (λ ne lt. e.others j ne ∙ i.below j (omega arith));
+      above = λ j le. let ne : q ≢ j = let lt = c.loop-q-test.true in omega arith in e.others j ne ∙ i.above j le;
+      none = e.none ∙ i.none;
+      from = λ h given_of. e.from h (i.from h given_of);
+      room = e.room ∙ i.room;
+      holds = e.holds;
+      rooms = (e.rooms.0 ∙ i.rooms.0, e.rooms.1 ∙ i.rooms.1, i.rooms.2);
     }
+
+pub returns-clause-empty : goal.returns-clause-empty
+returns-clause-empty c = let i = c.loop-q.invariant in none_at_all _ c.loop-q.pending.items (λ j lt. i.below j (let t = c.loop-q-test.false in omega arith)) i.above
+
+pub returns-clause-mid : goal.returns-clause-mid
+returns-clause-mid c =
+    let h = c.args.history.now.value in let i = c.loop-q.invariant in
+    subst (λ n. Mid 1024 h (h ++ Stop ∷ []) c.args.outcomes.now.value c.loop-q.done.added n) (none_at_all _ c.loop-q.pending.items (λ j lt. i.below j (let t = c.loop-q-test.false in omega arith)) i.above) i.mid

@@ -10,8 +10,8 @@ use Rattle.demi_memq.specs.Serving.{GivenOf}
 use Rattle.std.proofs.Common.{subst, sym}
 use Rattle.demi_memq.proofs.queues.Queues.close.Goals as goal
 
-pub close_all-requires-clause-owed : goal.close_all-requires-clause-owed
-close_all-requires-clause-owed c = close_owes 1024 c.args.history.now.value c.args.outcomes.now.value c.args.self.now.made c.args.self.now.shut.items _ (items_said c.args.self.now.waiting.items) c.args.self.now.pending.items c.requires.ready.kept (ap (option_map (λ p. p.0)) c.requires.calm) c.args.q c.if-q-self.false (flag 1024 c.args.history.now.value c.args.outcomes.now.value c.args.self.now.made c.args.self.now.shut.items _ (items_said c.args.self.now.waiting.items) c.args.self.now.pending.items c.requires.ready.kept (ap (option_map (λ p. p.0)) c.requires.calm) c.args.q c.index.result.now false c.if-q-self.false c.index.ensures c.if-index.false)
+pub end_pops-requires-clause-owed : goal.end_pops-requires-clause-owed
+end_pops-requires-clause-owed c = close_owes 1024 c.args.history.now.value c.args.outcomes.now.value c.args.self.now.made c.args.self.now.shut.items _ (items_said c.args.self.now.waiting.items) c.args.self.now.pending.items c.requires.ready.kept (ap (option_map (λ p. p.0)) c.requires.calm) c.args.q c.if-q-self.false (flag 1024 c.args.history.now.value c.args.outcomes.now.value c.args.self.now.made c.args.self.now.shut.items _ (items_said c.args.self.now.waiting.items) c.args.self.now.pending.items c.requires.ready.kept (ap (option_map (λ p. p.0)) c.requires.calm) c.args.q c.index.result.now false c.if-q-self.false c.index.ensures c.if-index.false)
 
 pub returns-then-q-self : goal.returns-then-q-self
 returns-then-q-self c = record {
@@ -35,12 +35,12 @@ returns-then-index c = record {
 
 pub returns-else-index : goal.returns-else-index
 returns-else-index c = record {
-  served = close_last 1024 c.args.history.now.value c.args.outcomes.now.value c.args.self.now.made c.args.self.now.shut.items _ (items_said c.args.self.now.waiting.items) c.args.self.now.pending.items c.requires.ready.kept (ap (option_map (λ p. p.0)) c.requires.calm) c.args.q c.close_all.new.done.added c.add-else-index.new.self.added c.close_all.new.pending.items c.if-q-self.false (flag 1024 c.args.history.now.value c.args.outcomes.now.value c.args.self.now.made c.args.self.now.shut.items _ (items_said c.args.self.now.waiting.items) c.args.self.now.pending.items c.requires.ready.kept (ap (option_map (λ p. p.0)) c.requires.calm) c.args.q c.index.result.now false c.if-q-self.false c.index.ensures c.if-index.false) c.close_all.ensures.mid c.close_all.ensures.gone c.close_all.ensures.others
-      (c.add-else-index.ensures.added ∙ ap (λ i. c.close_all.new.done.added ++ (i, Shut) ∷ []) c.requires.ready.next);
+  served = close_last 1024 c.args.history.now.value c.args.outcomes.now.value c.args.self.now.made c.args.self.now.shut.items _ (items_said c.args.self.now.waiting.items) c.args.self.now.pending.items c.requires.ready.kept (ap (option_map (λ p. p.0)) c.requires.calm) c.args.q c.end_pops.new.done.added c.add-else-index.new.self.added c.end_pops.new.pending.items c.if-q-self.false (flag 1024 c.args.history.now.value c.args.outcomes.now.value c.args.self.now.made c.args.self.now.shut.items _ (items_said c.args.self.now.waiting.items) c.args.self.now.pending.items c.requires.ready.kept (ap (option_map (λ p. p.0)) c.requires.calm) c.args.q c.index.result.now false c.if-q-self.false c.index.ensures c.if-index.false) c.end_pops.ensures.mid c.end_pops.ensures.gone c.end_pops.ensures.others
+      (c.add-else-index.ensures.added ∙ ap (λ i. c.end_pops.new.done.added ++ (i, Shut) ∷ []) c.requires.ready.next);
   sound = search rules;
   given = let h = c.args.self.now.pass.heap in
-      subst (GivenOf h) (sym c.add-else-index.ensures.added) (given_of_more h c.close_all.new.done.added c.args.place.0 Shut (c.close_all.ensures.from h (subst (GivenOf h) (sym c.requires.ready.empty) tt)) tt);
-  numbers = let a = ap given c.add-else-index.ensures.added in let m = given_more c.close_all.new.done.added c.args.place.0 Shut in let n = c.close_all.ensures.none in let z = ap given c.requires.ready.empty in
+      subst (GivenOf h) (sym c.add-else-index.ensures.added) (given_of_more h c.end_pops.new.done.added c.args.place.0 Shut (c.end_pops.ensures.from h (subst (GivenOf h) (sym c.requires.ready.empty) tt)) tt);
+  numbers = let a = ap given c.add-else-index.ensures.added in let m = given_more c.end_pops.new.done.added c.args.place.0 Shut in let n = c.end_pops.ensures.none in let z = ap given c.requires.ready.empty in
       still_accounts c.args.self.now.pass (held c.args.self.now.waiting.items) (held c.args.self.now.waiting.items) c.add-else-index.new.self.added 0 (omega arith);
   room = search rules;
   done = search rules;

@@ -31,7 +31,7 @@ returns-in-Some c = record {
       subst (GivenOf h) (sym c.add-in-Some.ensures.added) (given_of_more h c.args.done.now.added c.args.place.0 (Item c.in-Some.sga) (subst (GivenOf h) (sym c.requires.ready.empty) tt) mine);
   numbers = let a = ap given c.add-in-Some.ensures.added in let m = given_more c.args.done.now.added c.args.place.0 (Item c.in-Some.sga) in let z = ap given c.requires.ready.empty in
       let r = ap held c.in-Some.ensures.rest in let h = held_rest c.args.q c.in-Some.sga _ c.args.self.now.waiting.items c.in-Some.ensures.first in
-      still_accounts c.args.self.now.pass (held c.args.self.now.waiting.items) (held c.take_first.new.room.items) c.add-in-Some.new.self.added 0 (omega arith);
+      still_accounts c.args.self.now.pass (held c.args.self.now.waiting.items) (held c.pop.new.self.items) c.add-in-Some.new.self.added 0 (omega arith);
   room = search rules;
   done = search rules;
 }
@@ -49,8 +49,8 @@ returns-then-index c = record {
 
 pub returns-else-index : goal.returns-else-index
 returns-else-index c = record {
-  served = subst (λ l. Goes 1024 c.args.history.now.value c.args.outcomes.now.value (Rattle.demi_memq.specs.declared.op.MemOp.TheVariants.Pop c.args.q) c.args.done.now.added c.args.self.now.made c.args.self.now.shut.items (option_map (λ p. p.0) c.args.self.now.stop) l c.push_back_reserved.new.self.items) (sym (ap (λ r. items_said r.items) c.in_default.ensures.same))
-      (pop_wait 1024 c.args.history.now.value c.args.outcomes.now.value c.args.self.now.made c.args.self.now.shut.items _ (items_said c.args.self.now.waiting.items) c.args.self.now.pending.items c.requires.ready.kept (ap (option_map (λ p. p.0)) c.requires.calm) c.args.q c.args.place.0 c.args.done.now.added c.push_back_reserved.new.self.items c.if-q-self.false (flag 1024 c.args.history.now.value c.args.outcomes.now.value c.args.self.now.made c.args.self.now.shut.items _ (items_said c.args.self.now.waiting.items) c.args.self.now.pending.items c.requires.ready.kept (ap (option_map (λ p. p.0)) c.requires.calm) c.args.q c.index.result.now false c.if-q-self.false c.index.ensures c.if-index.false) (said_none c.args.q c.args.self.now.waiting.items c.in_default.ensures.none) c.requires.ready.next c.push_back_reserved.ensures.items c.requires.ready.empty);
+  served = subst (λ l. Goes 1024 c.args.history.now.value c.args.outcomes.now.value (Rattle.demi_memq.specs.declared.op.MemOp.TheVariants.Pop c.args.q) c.args.done.now.added c.args.self.now.made c.args.self.now.shut.items (option_map (λ p. p.0) c.args.self.now.stop) l c.push.new.self.items) (sym (ap (λ r. items_said r.items) c.in_default.ensures.same))
+      (pop_wait 1024 c.args.history.now.value c.args.outcomes.now.value c.args.self.now.made c.args.self.now.shut.items _ (items_said c.args.self.now.waiting.items) c.args.self.now.pending.items c.requires.ready.kept (ap (option_map (λ p. p.0)) c.requires.calm) c.args.q c.args.place.0 c.args.done.now.added c.push.new.self.items c.if-q-self.false (flag 1024 c.args.history.now.value c.args.outcomes.now.value c.args.self.now.made c.args.self.now.shut.items _ (items_said c.args.self.now.waiting.items) c.args.self.now.pending.items c.requires.ready.kept (ap (option_map (λ p. p.0)) c.requires.calm) c.args.q c.index.result.now false c.if-q-self.false c.index.ensures c.if-index.false) (said_none c.args.q c.args.self.now.waiting.items c.in_default.ensures.none) c.requires.ready.next c.push.ensures.items c.requires.ready.empty);
   sound = search rules;
   given = search rules;
   numbers = search rules;

@@ -1,5 +1,5 @@
 use Rattle.std.proofs.Common.{rules, ◌∙◌, sym, ap, subst, arith, length, ◌<◌, ◌≤◌, ℕ, List, [], ◌∷◌}
-use Rattle.demi_memq.proofs.EachKind.{one_added, two_added, flag, push_bad, push_closed, push_wait, push_full, push_meet, Goes}
+use Rattle.demi_memq.proofs.EachKind.{one_added, two_added, flag, push_bad, push_closed, push_wait, push_full, push_meet, ltb_less, ltb_full, Goes}
 use Rattle.std.specs.Option.{option_map}
 use Rattle.demi_memq.specs.Serving.{items_said}
 use Rattle.demi_memq.specs.Said.{array_said}
@@ -12,7 +12,7 @@ use Rattle.demi_port_core.proofs.Lists.{each_snoc}
 use Rattle.demi_sga.specs.Arrays.{AreOf}
 use Rattle.demi_memq.specs.Serving.{ItemsOf}
 use Rattle.demi_memq.proofs.queues.Queues.push.Goals as goal
-use Rattle.demi_memq.proofs.queues.Queues.push.Goals.{then-q-self, else-q-self+then-index, else-q-self+else-index+in_default+else-len-lt-MOST_ITEMS}
+use Rattle.demi_memq.proofs.queues.Queues.push.Goals.{then-q-self, else-q-self+then-index, else-q-self+else-index+in_default+else-has_room}
 use Rattle.std.proofs.Common.{true, false}
 
 pub returns-in-Some : goal.returns-in-Some
@@ -25,18 +25,18 @@ returns-in-Some c = record {
   done = search rules;
 }
 
-pub returns-then-len-lt-MOST_ITEMS : goal.returns-then-len-lt-MOST_ITEMS
-returns-then-len-lt-MOST_ITEMS c = record {
-  served = let less : length (items_said c.args.self.now.waiting.items) < 1024 = let s = said_length c.args.self.now.waiting.items in let a = c.args.self.now.waiting.ok.0 in let b = c.len.ensures in let d = c.if-len-lt-MOST_ITEMS.true in omega arith in
-      subst (λ l. Goes 1024 c.args.history.now.value c.args.outcomes.now.value (Rattle.demi_memq.specs.declared.op.MemOp.TheVariants.Push c.args.q (array_said c.args.sga)) c.add-then-len-lt-MOST_ITEMS.new.self.added c.args.self.now.made c.args.self.now.shut.items (option_map (λ p. p.0) c.args.self.now.stop) (items_said c.push_back_reserved.new.self.items) l) (sym (ap (λ r. r.items) c.in_default.ensures.same))
-      (subst (λ l. Goes 1024 c.args.history.now.value c.args.outcomes.now.value (Rattle.demi_memq.specs.declared.op.MemOp.TheVariants.Push c.args.q (array_said c.args.sga)) c.add-then-len-lt-MOST_ITEMS.new.self.added c.args.self.now.made c.args.self.now.shut.items (option_map (λ p. p.0) c.args.self.now.stop) l c.args.self.now.pending.items) (sym (ap items_said c.push_back_reserved.ensures.items ∙ said_more c.args.q c.args.sga c.args.self.now.waiting.items))
-      (push_wait 1024 c.args.history.now.value c.args.outcomes.now.value c.args.self.now.made c.args.self.now.shut.items _ (items_said c.args.self.now.waiting.items) c.args.self.now.pending.items c.requires.ready.kept (ap (option_map (λ p. p.0)) c.requires.calm) c.args.q (array_said c.args.sga) _ c.if-q-self.false (flag 1024 c.args.history.now.value c.args.outcomes.now.value c.args.self.now.made c.args.self.now.shut.items _ (items_said c.args.self.now.waiting.items) c.args.self.now.pending.items c.requires.ready.kept (ap (option_map (λ p. p.0)) c.requires.calm) c.args.q c.index.result.now false c.if-q-self.false c.index.ensures c.if-index.false) c.in_default.ensures.none less (one_added c.args.done.now.added c.add-then-len-lt-MOST_ITEMS.new.self.added c.args.place.0 (length c.args.history.now.value) _ c.add-then-len-lt-MOST_ITEMS.ensures.added c.requires.ready.empty c.requires.ready.next)));
+pub returns-then-has_room : goal.returns-then-has_room
+returns-then-has_room c = record {
+  served = let less : length (items_said c.args.self.now.waiting.items) < 1024 = let s = said_length c.args.self.now.waiting.items in let a = c.args.self.now.holds.0 in let d = ltb_less _ _ (sym c.has_room.ensures ∙ c.if-has_room.true) in omega arith in
+      subst (λ l. Goes 1024 c.args.history.now.value c.args.outcomes.now.value (Rattle.demi_memq.specs.declared.op.MemOp.TheVariants.Push c.args.q (array_said c.args.sga)) c.add-then-has_room.new.self.added c.args.self.now.made c.args.self.now.shut.items (option_map (λ p. p.0) c.args.self.now.stop) (items_said c.push.new.self.items) l) (sym (ap (λ r. r.items) c.in_default.ensures.same))
+      (subst (λ l. Goes 1024 c.args.history.now.value c.args.outcomes.now.value (Rattle.demi_memq.specs.declared.op.MemOp.TheVariants.Push c.args.q (array_said c.args.sga)) c.add-then-has_room.new.self.added c.args.self.now.made c.args.self.now.shut.items (option_map (λ p. p.0) c.args.self.now.stop) l c.args.self.now.pending.items) (sym (ap items_said c.push.ensures.items ∙ said_more c.args.q c.args.sga c.args.self.now.waiting.items))
+      (push_wait 1024 c.args.history.now.value c.args.outcomes.now.value c.args.self.now.made c.args.self.now.shut.items _ (items_said c.args.self.now.waiting.items) c.args.self.now.pending.items c.requires.ready.kept (ap (option_map (λ p. p.0)) c.requires.calm) c.args.q (array_said c.args.sga) _ c.if-q-self.false (flag 1024 c.args.history.now.value c.args.outcomes.now.value c.args.self.now.made c.args.self.now.shut.items _ (items_said c.args.self.now.waiting.items) c.args.self.now.pending.items c.requires.ready.kept (ap (option_map (λ p. p.0)) c.requires.calm) c.args.q c.index.result.now false c.if-q-self.false c.index.ensures c.if-index.false) c.in_default.ensures.none less (one_added c.args.done.now.added c.add-then-has_room.new.self.added c.args.place.0 (length c.args.history.now.value) _ c.add-then-has_room.ensures.added c.requires.ready.empty c.requires.ready.next)));
   sound = let h = c.args.self.now.heap.now in let mine : AreOf h c.args.sga = subst (λ k. AreOf k c.args.sga) c.requires.ready.sound.0 c.requires.proper in
-      (c.requires.ready.sound.0, subst (ItemsOf h) (sym c.push_back_reserved.ensures.items) (each_snoc (λ (e : ℕ × List HalfValue). AreOf h e.1) c.args.self.now.waiting.items (c.args.q, c.args.sga) c.requires.ready.sound.1 mine));
+      (c.requires.ready.sound.0, subst (ItemsOf h) (sym c.push.ensures.items) (each_snoc (λ (e : ℕ × List HalfValue). AreOf h e.1) c.args.self.now.waiting.items (c.args.q, c.args.sga) c.requires.ready.sound.1 mine));
   given = search rules;
-  numbers = let a = ap given c.add-then-len-lt-MOST_ITEMS.ensures.added in let m = given_more c.args.done.now.added c.args.place.0 Pushed in let z = ap given c.requires.ready.empty in
-      let r = ap held c.push_back_reserved.ensures.items in let h = held_more c.args.q c.args.sga c.args.self.now.waiting.items in
-      still_accounts c.args.self.now.pass (held c.args.self.now.waiting.items) (held c.push_back_reserved.new.self.items) c.add-then-len-lt-MOST_ITEMS.new.self.added (length c.args.sga) (omega arith);
+  numbers = let a = ap given c.add-then-has_room.ensures.added in let m = given_more c.args.done.now.added c.args.place.0 Pushed in let z = ap given c.requires.ready.empty in
+      let r = ap held c.push.ensures.items in let h = held_more c.args.q c.args.sga c.args.self.now.waiting.items in
+      still_accounts c.args.self.now.pass (held c.args.self.now.waiting.items) (held c.push.new.self.items) c.add-then-has_room.new.self.added (length c.args.sga) (omega arith);
   room = search rules;
   done = search rules;
 }
@@ -50,8 +50,8 @@ returns c = record {
         | then-q-self v ↦ rw v.self-is (push_bad 1024 h f s.made s.shut.items _ w n kept calm q said added v.if-q-self.true (one ∙ (λ i. (length h, v.refusal-is i) ∷ [])))
         | else-q-self+then-index v ↦ rw v.self-is (push_closed 1024 h f s.made s.shut.items _ w n kept calm q said added v.if-q-self.false
             (flag 1024 h f s.made s.shut.items _ w n kept calm q v.index.result.now true v.if-q-self.false v.index.ensures v.if-index.true) (one ∙ (λ i. (length h, v.refusal-is i) ∷ [])))
-        | else-q-self+else-index+in_default+else-len-lt-MOST_ITEMS v ↦
-            let more : 1024 ≤ length w = let a = said_length s.waiting.items in let b = s.waiting.ok.0 in let d = v.len.ensures in let e = v.if-len-lt-MOST_ITEMS.false in omega arith in
+        | else-q-self+else-index+in_default+else-has_room v ↦
+            let more : 1024 ≤ length w = let a = said_length s.waiting.items in let b = s.holds.0 in let d = ltb_full _ _ (sym v.has_room.ensures ∙ v.if-has_room.false) in omega arith in
             rw v.self-is (subst (λ l. Goes 1024 h f (Rattle.demi_memq.specs.declared.op.MemOp.TheVariants.Push q said) added s.made s.shut.items (option_map (λ p. p.0) s.stop) w l) (sym (ap (λ r. r.items) v.in_default.ensures.same))
             (push_full 1024 h f s.made s.shut.items _ w n kept calm q said added v.if-q-self.false
             (flag 1024 h f s.made s.shut.items _ w n kept calm q v.index.result.now false v.if-q-self.false v.index.ensures v.if-index.false) v.in_default.ensures.none more (one ∙ (λ i. (length h, v.refusal-is i) ∷ []))))
