@@ -3,5 +3,4 @@ pub mod Steps
 pub mod Outcome
 pub mod Run
 pub mod Ended
-pub mod Real
 pub mod Reading

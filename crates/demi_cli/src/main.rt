@@ -1,14 +1,13 @@
 //! The program `demi`, a store that takes framed requests and appends each put to a log.
 //!
 //! [`run`] is all that it does, over any world: what it promises are its clauses. Below it, `serving` answers the
-//! requests of one link, and `reporting` gives each outcome its exit status and its text. `real` is the world that
-//! `main` makes: standard input and output, and files.
+//! requests of one link, and `reporting` gives each outcome its exit status and its text. The world that `main` makes is
+//! that of `demi_net`: standard input and output, and files.
 //! Not promised: what a real stream or file holds, and that memory is found.
 #![tactic(auto)]
 
 mod answering;
 mod outcome;
-mod real;
 mod replying;
 mod reporting;
 mod running;
@@ -16,9 +15,9 @@ mod serving;
 #[cfg(test)]
 mod tests;
 
-use crate::real::RealWorld;
 use crate::running::run;
 use demi_core::{NoMemory, World};
+use demi_net::RealWorld;
 use std::env;
 use std::io::ErrorKind;
 use std::process::ExitCode;

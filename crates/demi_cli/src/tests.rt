@@ -2,5 +2,4 @@
 mod answers;
 mod faults;
 mod in_memory;
-mod real_files;
 mod whole_runs;

@@ -59,6 +59,16 @@ IsFault Closed = ⊥
 IsFault (Stopped s) = ⊥
 IsFault Halted = ⊥
 
+-- it wrote nothing, and touched no sink
+abbrev pub IsRefusal : TxOut → Type 0
+IsRefusal (Broken q) = Unit {0}
+IsRefusal Shut = Unit {0}
+IsRefusal Closed = Unit {0}
+IsRefusal (Stopped s) = Unit {0}
+IsRefusal Halted = Unit {0}
+IsRefusal Pushed = ⊥
+IsRefusal (Fault k) = ⊥
+
 -- one is a fault
 abbrev pub HasFault : List (ℕ × TxOut) → Type 0
 HasFault [] = ⊥

@@ -50,7 +50,7 @@ impl RxState {
         ensures later { S.faults source.old ≤ S.faults source.new }
         ensures rose { IsFault result → Rose (S.faults source.old) (S.faults source.new) }
         ensures end { IsEnd result → NoneLeft (S.left source.new) }
-        ensures did { RxDid S.reads self.old.at_end source.old pass.old result source.new pass.new }
+        ensures did { RxDid S.faults S.reads self.old.at_end source.old pass.old result source.new pass.new }
         ensures ended { self.new.at_end ≡ ended_after self.old.at_end result }
         ensures within { self.new.taken ≤ S.taken source.new }
         ensures none_left { self.new.at_end ≡ true → NoneLeft (S.left source.new) }

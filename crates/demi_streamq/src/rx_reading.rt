@@ -30,7 +30,7 @@ pub(crate) fn read_piece<S: Source>(
     ensures later { S.faults source.old ≤ S.faults source.new }
     ensures rose { IsFault result → Rose (S.faults source.old) (S.faults source.new) }
     ensures end { IsEnd result → NoneLeft (S.left source.new) }
-    ensures did { RxDid S.reads false source.old pass.old result source.new pass.new }
+    ensures did { RxDid S.faults S.reads false source.old pass.old result source.new pass.new }
     ensures most { 1 ≤ length (bytes_of result) → S.taken source.new ≤ 2 ^ 34 }
 {
     match heap.claim(pass, Class::Page) {

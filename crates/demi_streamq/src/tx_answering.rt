@@ -5,7 +5,8 @@ ghost use Rattle.demi_core.specs.Outside.{Rose};
 ghost use Rattle.demi_sga.specs.Arrays.{returned_by};
 ghost use Rattle.demi_streamq.specs.Sending.{IsProper, array_bytes};
 ghost use Rattle.demi_streamq.specs.declared.tx_op.TxOp.TheVariants.{Push as push, Close as close, Stop as stop};
-ghost use Rattle.demi_streamq.specs.TxKept.{bytes_of, IsFault, segments_of, TxServes, written_of};
+ghost use Rattle.demi_streamq.specs.TxGoing.{TxDid};
+ghost use Rattle.demi_streamq.specs.TxKept.{bytes_of, IsFault, IsRefusal, segments_of, TxServes, written_of};
 ghost use Rattle.demi_streamq.specs.TxState.{IsKept};
 
 use crate::tx_heard::{TxHistory, TxOutcomes};
@@ -44,6 +45,7 @@ impl TxState {
         ensures written { S.written sink.new ≡ append_known (S.written sink.old) (written_of (bytes_of op) result) }
         ensures later { S.faults sink.old ≤ S.faults sink.new }
         ensures rose { IsFault result → Rose (S.faults sink.old) (S.faults sink.new) }
+        ensures did { TxDid S.written S.faults sink.old (bytes_of op) result sink.new }
         ensures pass { pass.new ≡ returned_by pass.old (segments_of op) }
     {
         match op {
@@ -72,6 +74,7 @@ impl TxState {
         ensures written { S.written sink.new ≡ append_known (S.written sink.old) (written_of (array_bytes sga.now) result) }
         ensures later { S.faults sink.old ≤ S.faults sink.new }
         ensures rose { IsFault result → Rose (S.faults sink.old) (S.faults sink.new) }
+        ensures did { TxDid S.written S.faults sink.old (array_bytes sga.now) result sink.new }
     {
         if let Some(at) = self.stop {
             return TxOut::Stopped(at);
@@ -95,8 +98,7 @@ impl TxState {
         requires kept { IsKept history.now.value outcomes.now.value self.old }
         ensures kept { IsKept (history.now.value ++ close ∷ []) (outcomes.now.value ++ (length history.now.value, result) ∷ []) self.new }
         ensures admitted { TxServes history.now.value outcomes.now.value close (length history.now.value) result }
-        ensures quiet { written_of [] result ≡ [] }
-        ensures calm { IsFault result → ⊥ }
+        ensures refusal { IsRefusal result }
     {
         if let Some(at) = self.stop {
             return TxOut::Stopped(at);
@@ -116,8 +118,7 @@ impl TxState {
         requires next { place.0 ≡ length history.now.value }
         ensures kept { IsKept (history.now.value ++ stop ∷ []) (outcomes.now.value ++ (length history.now.value, result) ∷ []) self.new }
         ensures admitted { TxServes history.now.value outcomes.now.value stop (length history.now.value) result }
-        ensures quiet { written_of [] result ≡ [] }
-        ensures calm { IsFault result → ⊥ }
+        ensures refusal { IsRefusal result }
     {
         if let Some(at) = self.stop {
             return TxOut::Stopped(at);

@@ -1,34 +1,25 @@
-//! A sending port with a device and a heap of small slots, for one thread.
-ghost use Rattle.std.specs.Prelude.{◌≡◌, ℕ, ◌+◌, ◌<◌, ◌≤◌, length};
+//! Rows of a sending port, over a sink in memory.
+ghost use Rattle.std.specs.Prelude.{◌≡◌, length};
 ghost use Rattle.demi_device.specs.Turning.{IsFresh};
 ghost use Rattle.demi_port.specs.Seen.{IsNewSeat, NewFrom};
-ghost use Rattle.demi_port_core.specs.History.{AnyOf, Each, total};
 ghost use Rattle.demi_sga.specs.Arrays.{AreOf};
+ghost use Rattle.demi_streamq.specs.InTests.{IsCalm};
 ghost use Rattle.demi_streamq.specs.Sending.{IsProper};
 
+use super::rows::{Ask, Row, Seen};
+use super::served::{answer, close_heap, end, heap_of};
 use crate::{StreamBase, TxEngine, TxLaw, TxOp, TxOut};
 use demi_buf::Class;
 use demi_core::MemSink;
-use demi_device::{Device, Turn};
-use demi_heap::{AppBuf, Counts, Heap, HeapPass, NoSlot};
-use demi_port::{DeviceSeat, Port, PortPass, Redeem};
-use demi_port_core::{Basis, Token};
+use demi_device::Device;
+use demi_heap::{AppBuf, Heap, HeapEnd, HeapPass, NoSlot};
+use demi_port::{DeviceSeat, Port, PortPass};
+use demi_port_core::Basis;
 use demi_sga::{AppSga, free_app, free_lent, lend};
 use std::alloc::Global;
 use std::marker::Brand;
 use std::process::Abort;
-
-/// An outcome, with the number of its place.
-#[derive(Debug, PartialEq, Eq, Drop)]
-pub(crate) enum Sent {
-    Pushed,
-    Fault(u64),
-    Broken(u64),
-    Shut,
-    Closed,
-    Stopped(u64),
-    Halted,
-}
+use std::test::Fail;
 
 fn port_at<N: Basis<StreamBase>>(
     rt: &impl Abort,
@@ -47,8 +38,8 @@ fn port_at<N: Basis<StreamBase>>(
     made
 }
 
-/// A port with eight tokens on the heap.
-pub(crate) fn port_on(
+// A port with eight tokens on the heap.
+fn port_on(
     rt: &impl Abort,
     alloc: Global,
     heap: &Heap,
@@ -60,25 +51,8 @@ pub(crate) fn port_on(
     port_at::<Brand>(rt, alloc, heap)
 }
 
-/// A heap with eight small slots, and two passes of it.
-pub(crate) fn small_heap(rt: &impl Abort, alloc: Global) -> (Heap, HeapPass, HeapPass)
-    ensures { (result.1.heap ≡ result.0) × (result.2.heap ≡ result.0) × (result.0.shape.passes ≡ 2) }
-{
-    let counts = Counts {
-        small: 8,
-        page: 0,
-        large: 0,
-    };
-    let Ok((heap, mut passes)) = Heap::make(alloc, counts, 2) else {
-        panic!(rt; "no memory");
-    };
-    let first = passes.pop().unwrap();
-    let second = passes.pop().unwrap();
-    (heap, first, second)
-}
-
-/// An engine at the port's device.
-pub(crate) fn device_on<'h>(
+// An engine at the port's device.
+fn device_on<'h>(
     rt: &impl Abort,
     alloc: Global,
     heap: &'h Heap,
@@ -99,24 +73,6 @@ pub(crate) fn device_on<'h>(
             let _parts = engine.parts();
             panic!(rt; "no memory")
         }
-    }
-}
-
-/// Submits an operation.
-pub(crate) fn ask(
-    rt: &impl Abort,
-    port: &Port<TxLaw>,
-    pass: &mut PortPass<TxLaw>,
-    op: TxOp,
-) -> Token
-    requires port { pass.old.port ≡ port.now }
-    requires proper { IsProper port.now.key.base op }
-    ensures same { (pass.new.port ≡ pass.old.port) × (pass.new.number ≡ pass.old.number) }
-    ensures one { (length pass.new.submitted ≡ length pass.old.submitted + 1) × (pass.new.redeemed ≡ pass.old.redeemed) }
-{
-    match port.submit(pass, op) {
-        Ok((token, _)) => token,
-        Err(_) => panic!(rt; "no token is free"),
     }
 }
 
@@ -174,80 +130,83 @@ fn array(
     joined(rt, heap, app, front, third)
 }
 
-/// Lends an array of these three segments, gives its own half up at once, and pushes it.
-pub(crate) fn push(
-    rt: &impl Abort,
-    heap: &Heap,
-    app: &mut HeapPass,
-    port: &Port<TxLaw>,
-    pass: &mut PortPass<TxLaw>,
-    first: &[u8],
-    second: &[u8],
-    third: &[u8],
-) -> Token
-    requires port { (pass.old.port ≡ port.now) × (port.now.key.base ≡ heap.now) }
-    requires heap { app.old.heap ≡ heap.now }
-    ensures app { app.new.heap ≡ heap.now }
-    ensures same { (pass.new.port ≡ pass.old.port) × (pass.new.number ≡ pass.old.number) }
-    ensures one { (length pass.new.submitted ≡ length pass.old.submitted + 1) × (pass.new.redeemed ≡ pass.old.redeemed) }
+// The operation of a row. Of an array that is pushed, the half that stays here ends at once.
+fn op_of(rt: &impl Abort, heap: &Heap, app: &mut HeapPass, ask: &Ask) -> TxOp
+    requires { app.old.heap ≡ heap.now }
+    ensures { IsProper heap.now result × (app.new.heap ≡ heap.now) }
 {
-    let sga = array(rt, heap, app, first, second, third);
-    let (half, dev) = lend(heap, app, sga);
-    free_lent(heap, app, half);
-    ask(rt, port, pass, TxOp::Push { sga: dev })
-}
-
-/// Redeems a token that is done.
-pub(crate) fn answer(
-    rt: &impl Abort,
-    port: &Port<TxLaw>,
-    pass: &mut PortPass<TxLaw>,
-    token: Token,
-) -> Sent
-    requires port { pass.old.port ≡ port.now }
-    ensures same { (pass.new.port ≡ pass.old.port) × (pass.new.number ≡ pass.old.number) }
-    ensures one { (pass.new.submitted ≡ pass.old.submitted) × (length pass.new.redeemed ≡ length pass.old.redeemed + 1) }
-{
-    match port.try_wait(pass, token) {
-        Redeem::Ready(_, TxOut::Pushed) => Sent::Pushed,
-        Redeem::Ready(_, TxOut::Fault(count)) => Sent::Fault(count),
-        Redeem::Ready(_, TxOut::Broken(place)) => Sent::Broken(place.0),
-        Redeem::Ready(_, TxOut::Shut) => Sent::Shut,
-        Redeem::Ready(_, TxOut::Closed) => Sent::Closed,
-        Redeem::Ready(_, TxOut::Stopped(place)) => Sent::Stopped(place.0),
-        Redeem::Ready(_, TxOut::Halted) => Sent::Halted,
-        Redeem::NotYet | Redeem::Spent | Redeem::Unknown => panic!(rt; "it is not done"),
+    match ask {
+        Ask::Push(first, second, third) => {
+            let sga = array(rt, heap, app, first, second, third);
+            let (half, dev) = lend(heap, app, sga);
+            free_lent(heap, app, half);
+            TxOp::Push { sga: dev }
+        }
+        Ask::Close => TxOp::Close,
+        Ask::Stop => TxOp::Stop,
+        _ => panic!(rt; "a sending port has no such operation"),
     }
 }
 
-/// One turn, of which the tests need to know no more than what stays.
-pub(crate) fn turn(device: &mut Device<TxEngine<MemSink>>, port: &Port<TxLaw>) -> Turn
-    requires { device.old.seat.port ≡ port.now }
-    ensures { (device.new.seat.port ≡ device.old.seat.port) × (device.new.seat.passes ≡ device.old.seat.passes) × (device.new.engine.pass.heap ≡ device.old.engine.pass.heap) }
-{
-    device.turn(port)
+// Whether the outcome is what was to be seen.
+fn is_as_seen(out: TxOut, seen: &Seen) -> bool {
+    match out {
+        TxOut::Pushed => *seen == Seen::Pushed,
+        TxOut::Fault(count) => *seen == Seen::Fault(count),
+        TxOut::Broken(place) => *seen == Seen::Broken(place.0),
+        TxOut::Shut => *seen == Seen::Shut,
+        TxOut::Closed => *seen == Seen::Closed,
+        TxOut::Stopped(place) => *seen == Seen::Stopped(place.0),
+        TxOut::Halted => *seen == Seen::Halted,
+    }
 }
 
-/// The last turn, and the close of the port. The sink and the engine's pass.
-pub(crate) fn end<'h>(
+// The operations of a row, one after another. Whether each came to what was to be seen.
+fn run<'h>(
     rt: &impl Abort,
     heap: &'h Heap,
-    port: Port<TxLaw>,
-    mut device: Device<TxEngine<'h, MemSink>>,
-    passes: Vec<PortPass<TxLaw>>,
-) -> (MemSink, HeapPass)
-    requires port { (device.seat.port ≡ port) × Each (λ p. p.port ≡ port) passes.items }
-    requires all { (n : ℕ) → n < device.seat.passes → AnyOf (λ p. p.number ≡ n) passes.items }
-    requires even { total (λ p. length p.submitted) passes.items ≡ total (λ p. length p.redeemed) passes.items }
-    requires heap { device.engine.pass.heap ≡ heap.now }
-    ensures { result.1.heap ≡ heap.now }
+    app: &mut HeapPass,
+    port: &Port<TxLaw>,
+    device: &mut Device<TxEngine<'h, MemSink>>,
+    pass: &mut PortPass<TxLaw>,
+    row: &Row,
+) -> bool
+    requires heap { (app.old.heap ≡ heap.now) × (port.now.key.base ≡ heap.now) }
+    requires device { device.old.seat.port ≡ port.now }
+    requires pass { IsCalm port.now pass.old }
+    ensures heap { app.new.heap ≡ heap.now }
+    ensures device { (device.new.seat.port ≡ device.old.seat.port) × (device.new.seat.passes ≡ device.old.seat.passes) }
+    ensures engine { device.new.engine.pass.heap ≡ device.old.engine.pass.heap }
+    ensures pass { IsCalm port.now pass.new }
 {
-    let _ = heap;
-    let last = device.turn(&port);
-    if last != Turn::Ended {
-        panic!(rt; "it did not end");
+    let mut same = true;
+    'asking: for (ask, seen) in row.asks {
+        let op = op_of(rt, heap, app, ask);
+        let out = answer(rt, port, device, pass, op);
+        same = is_as_seen(out, seen) && same;
     }
-    let (engine, seat) = device.parts();
-    let _tickets = port.close(seat, passes).tickets();
-    engine.parts()
+    same
+}
+
+/// A sink that takes at most two bytes a write, behind a port on a heap of eight small slots. Whether each operation of the row came
+/// to what was to be seen and just the bytes of the row were written, and the counts of the heap at its end.
+pub(crate) fn send(
+    rt: &impl Abort,
+    alloc: Global,
+    fails: Vec<u64>,
+    row: &Row,
+) -> Result<(bool, HeapEnd), Fail> {
+    let Ok(sink) = MemSink::make(alloc, 64, 2, fails) else {
+        return Err(Fail::from("no memory"));
+    };
+    let (heap, mine, mut app) = heap_of(rt, alloc, 8, 0);
+    let (port, mut passes, seat) = port_on(rt, alloc, &heap);
+    let mut pass = passes.take_last();
+    let mut device = device_on(rt, alloc, &heap, mine, sink, seat);
+    let same = run(rt, &heap, &mut app, &port, &mut device, &mut pass, row);
+    let halted = answer(rt, &port, &mut device, &mut pass, TxOp::Stop);
+    let _last = is_as_seen(halted, &Seen::Halted);
+    let (sink, mine) = end(rt, alloc, port, device, pass).parts();
+    let written = sink.bytes() == row.moved;
+    Ok((same && written, close_heap(rt, alloc, heap, mine, app)))
 }

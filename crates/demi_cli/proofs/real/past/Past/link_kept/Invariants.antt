@@ -1,6 +1,0 @@
-use Rattle.std.proofs.Common.{◌∷◌}
-use Rattle.demi_cli.specs.Real.{link_kept}
-use Rattle.demi_cli.proofs.real.past.Past.link_kept.Given as goal
-
-abbrev pub ghost-told : goal.ghost-told
-ghost-told a = link_kept a._number a._bytes a._faults a._more_faults ∷ a._past.now.calls

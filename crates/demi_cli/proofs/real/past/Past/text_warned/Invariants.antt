@@ -1,6 +1,0 @@
-use Rattle.std.proofs.Common.{◌∷◌}
-use Rattle.demi_cli.specs.Real.{text_warned}
-use Rattle.demi_cli.proofs.real.past.Past.text_warned.Given as goal
-
-abbrev pub ghost-told : goal.ghost-told
-ghost-told a = text_warned a._text.now ∷ a._past.now.calls

@@ -1,4 +1,0 @@
-use Rattle.demi_cli.proofs.real.past.Past.told.Given as goal
-
-abbrev pub ghost-of : goal.ghost-of
-ghost-of g a = g.known

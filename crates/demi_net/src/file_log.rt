@@ -1,0 +1,144 @@
+ghost use Rattle.std.specs.Prelude.{◌≡◌, ◌+◌, ◌≤◌, ◌^◌, None, IfSome, IsTrue, length, refl};
+ghost use mathlib.Core.Path.{◌∙◌};
+
+use crate::once::{read_once_at, write_once_at};
+use demi_core::{Disk, Failed};
+use std::fs::{File, OpenOptions};
+use std::os::fd::AsRawFd;
+
+// How many bytes a disk holds at most.
+const MAX_HELD_BYTES: u64 = 1 << 40;
+
+// How many bytes one read takes at most.
+const READ_BYTES: usize = 8192;
+
+// The descriptors below this one are those of the standard streams.
+const FIRST_FREE_DESCRIPTOR: i32 = 3;
+
+/// A file that is read at places, grows at its end and is cut there.
+///
+/// It keeps its number of bytes from the opening on. Not said: what the file holds, also where another program writes
+/// it meanwhile.
+#[derive(Drop)]
+pub struct FileLog {
+    file: File,
+    held_bytes: u64,
+    faults: u64,
+    ghost most: { held_bytes ≤ 2 ^ 40 },
+}
+
+impl FileLog {
+    /// The file of that name, made empty where there is none, and locked as long as it is open: two writers would tear
+    /// each other's log. None at an error, of a file that another opening has locked or that is above 2^40 bytes, and
+    /// where the file would get the descriptor of a standard stream that is closed: what is meant for that stream would
+    /// go into the log, and what stands in the log would come as input.
+    pub fn open(rt: &HostRuntime, name: &str) -> Option<FileLog>
+        ensures { IfSome result (λ log. ⟦<FileLog as Disk>⟧.faults log ≡ 0) }
+    {
+        let mut options = OpenOptions::new();
+        options.read(true).write(true).create(true);
+        let file = options.open(rt, name).ok()?;
+        if file.try_lock().is_err() {
+            return None;
+        }
+        let held_bytes = file.metadata().ok()?.len();
+        if held_bytes > MAX_HELD_BYTES || file.as_raw_fd() < FIRST_FREE_DESCRIPTOR {
+            return None;
+        }
+        Some(FileLog {
+            file,
+            held_bytes,
+            faults: 0,
+        })
+    }
+
+    // How many bytes it holds.
+    pub(crate) fn held_bytes(&self) -> u64
+        ensures { result ≡ self.now.held_bytes }
+    {
+        self.held_bytes
+    }
+
+    // How many faults there were.
+    pub(crate) fn faults(&self) -> u64
+        ensures { result ≡ self.now.faults }
+    {
+        self.faults
+    }
+}
+
+impl Disk for FileLog {
+    ghost held = { λ d. d.held_bytes };
+
+    ghost bytes = { λ d. None };
+
+    ghost faults = { λ d. d.faults };
+
+    // It tells of its calls only how many bytes it then holds.
+    ghost appends = { λ d piece ok e. IsTrue ok → e.held_bytes ≡ d.held_bytes + length piece };
+
+    ghost cuts = { λ d len ok e. IsTrue ok → e.held_bytes ≡ len };
+
+    ghost looks = { λ d e. e.held_bytes ≡ d.held_bytes };
+
+    ghost looks_same = { λ d. refl };
+
+    ghost looks_on = { λ a b c first then. then ∙ first };
+
+    ghost told_held = { λ d. tt };
+
+    ghost told_bytes = { λ d. tt };
+
+    fn size(&mut self) -> Result<u64, Failed> {
+        Ok(self.held_bytes)
+    }
+
+    fn read_at(&mut self, at: u64, room: &mut [u8]) -> Result<usize, Failed> {
+        if at >= self.held_bytes {
+            return Ok(0);
+        }
+        let mut piece = [0u8; READ_BYTES];
+        let most = room.len().min(READ_BYTES);
+        let most = (self.held_bytes - at).min(most as u64) as usize;
+        match read_once_at(&self.file, &mut piece[..most], at) {
+            Some(count) => {
+                room[..count].copy_from_slice(&piece[..count]);
+                Ok(count)
+            }
+            None => {
+                self.faults = self.faults.saturating_add(1);
+                Err(Failed)
+            }
+        }
+    }
+
+    fn append(&mut self, piece: &[u8]) -> Result<(), Failed> {
+        if piece.len() as u64 > MAX_HELD_BYTES - self.held_bytes {
+            self.faults = self.faults.saturating_add(1);
+            return Err(Failed);
+        }
+        let mut at = 0;
+        'writing: while at < piece.len() {
+            match write_once_at(&self.file, &piece[at..], self.held_bytes) {
+                Some(count) => {
+                    at += count;
+                    self.held_bytes += count as u64;
+                }
+                None => {
+                    self.faults = self.faults.saturating_add(1);
+                    return Err(Failed);
+                }
+            }
+        }
+        Ok(())
+    }
+
+    fn cut(&mut self, len: u64) -> Result<(), Failed> {
+        if self.file.set_len(len).is_err() {
+            self.faults = self.faults.saturating_add(1);
+            return Err(Failed);
+        }
+        self.held_bytes = len;
+        Ok(())
+    }
+}

@@ -1,0 +1,77 @@
+ghost use Rattle.std.specs.Prelude.{◌≡◌, ◌+◌, ◌≤◌, ◌^◌, [], None, length, unwrap_or};
+
+use crate::once::read_once;
+use demi_core::{Failed, Source};
+use std::io::Stdin;
+
+// How many bytes a source gives at most.
+const MAX_GIVEN_BYTES: u64 = 1 << 34;
+
+// How many bytes one read takes at most.
+const READ_BYTES: usize = 8192;
+
+/// Standard input, as it was when the program began.
+#[derive(Drop)]
+pub struct StreamIn {
+    stdin: Stdin,
+    given_bytes: u64,
+    faults: u64,
+    ghost most: { given_bytes ≤ 2 ^ 34 },
+}
+
+impl StreamIn {
+    /// Standard input. It gave nothing yet.
+    pub fn new(stdin: Stdin) -> StreamIn
+        ensures taken { ⟦<StreamIn as Source>⟧.taken result ≡ 0 }
+        ensures left { ⟦<StreamIn as Source>⟧.left result ≡ None }
+        ensures faults { ⟦<StreamIn as Source>⟧.faults result ≡ 0 }
+    {
+        StreamIn {
+            stdin,
+            given_bytes: 0,
+            faults: 0,
+        }
+    }
+
+    // How many bytes were given.
+    pub(crate) fn given_bytes(&self) -> u64
+        ensures { result ≡ self.now.given_bytes }
+    {
+        self.given_bytes
+    }
+
+    // How many faults there were.
+    pub(crate) fn faults(&self) -> u64
+        ensures { result ≡ self.now.faults }
+    {
+        self.faults
+    }
+}
+
+impl Source for StreamIn {
+    ghost taken = { λ s. s.given_bytes };
+
+    ghost left = { λ s. None };
+
+    ghost faults = { λ s. s.faults };
+
+    // It tells of a read only that it counts the bytes that it gave.
+    ghost reads = { λ s room gave t. t.given_bytes ≡ s.given_bytes + length (unwrap_or gave []) };
+
+    ghost told_bytes = { λ s. tt };
+
+    fn read(&mut self, room: &mut [u8]) -> Result<usize, Failed> {
+        let mut piece = [0u8; READ_BYTES];
+        let most = room.len().min(READ_BYTES);
+        if self.given_bytes < MAX_GIVEN_BYTES {
+            let most = (MAX_GIVEN_BYTES - self.given_bytes).min(most as u64) as usize;
+            if let Some(count) = read_once(&mut self.stdin, &mut piece[..most]) {
+                room[..count].copy_from_slice(&piece[..count]);
+                self.given_bytes += count as u64;
+                return Ok(count);
+            }
+        }
+        self.faults = self.faults.saturating_add(1);
+        Err(Failed)
+    }
+}

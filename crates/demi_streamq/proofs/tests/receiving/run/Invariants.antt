@@ -1,0 +1,13 @@
+use Rattle.std.proofs.Common.{◌≡◌}
+use Rattle.std.specs.Prelude.{IfSome}
+use Rattle.demi_streamq.specs.InTests.{IsCalm}
+use Rattle.demi_streamq.proofs.tests.receiving.run.Given as goal
+
+abbrev pub invariant-asking : goal.invariant-asking
+invariant-asking g l = record {
+  heap : l.app.heap ≡ l.heap;
+  held : IfSome l.held (λ b. b.heap ≡ l.heap);
+  seat : (l.device.seat.port ≡ l.port) × (l.device.seat.passes ≡ l.fn.device.seat.passes);
+  engine : l.device.engine.pass.heap ≡ l.fn.device.engine.pass.heap;
+  pass : IsCalm l.port l.pass;
+}
