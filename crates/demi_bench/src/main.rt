@@ -1,5 +1,6 @@
-//! Claims and frees of the guarded heap, beside the same loop over a free list behind a mutex; and operations through one
-//! port, from submit to redeem, beside the same through channels.
+//! Claims and frees of the guarded heap, beside the same loop over a free list behind a mutex, and beside the same while
+//! another pass holds slots of the class; and operations through one port, from submit to redeem, beside the same through
+//! channels.
 //!
 //! With no argument it runs one small fixed case and prints counts alone. With a number of rounds it prints rates too, as
 //! in `demi_bench 2000000`. A rate is one of this run and this machine: compare those of one line.
@@ -25,6 +26,9 @@ use std::{env, fmt, io};
 
 /// Rounds of each thread in the fixed case.
 const FIXED_ROUNDS: u32 = 500;
+
+/// Slots that another pass holds, in the case that has some.
+const HELD: u32 = 1000;
 
 /// Rounds a millisecond, of all threads.
 fn rate(rounds: u32, threads: u32, took: Duration) -> u64 {
@@ -64,7 +68,7 @@ fn measure_heap<R: Threads + Clock + Wait + Print + Sync>(
     rounds: u32,
     with_rates: bool,
 ) -> io::Result<bool> {
-    let Some((heap_free, heap_took)) = heap_loop::run(rt, alloc, threads, rounds)? else {
+    let Some((heap_free, heap_took)) = heap_loop::run(rt, alloc, threads, rounds, 0)? else {
         return Ok(false);
     };
     let Some((list_free, list_took)) = list_loop::run(rt, alloc, threads, rounds)? else {
@@ -76,7 +80,35 @@ fn measure_heap<R: Threads + Clock + Wait + Print + Sync>(
     if with_rates {
         let heap_rate = rate(rounds, threads, heap_took);
         let list_rate = rate(rounds, threads, list_took);
-        println!(rt; "  rounds a millisecond: heap {heap_rate}, list {list_rate}")?;
+        let ratio = Ratio::of(heap_rate, list_rate);
+        println!(rt; "  rounds a millisecond: heap {heap_rate}, list {list_rate} (ratio {ratio})")?;
+    }
+    Ok(true)
+}
+
+/// Whether there was memory for it.
+fn measure_held<R: Threads + Clock + Print + Sync>(
+    rt: &R,
+    alloc: Global,
+    rounds: u32,
+    with_rates: bool,
+) -> io::Result<bool> {
+    let Some((none_free, none_took)) = heap_loop::run(rt, alloc, 1, rounds, 0)? else {
+        return Ok(false);
+    };
+    let Some((held_free, held_took)) = heap_loop::run(rt, alloc, 1, rounds, HELD)? else {
+        return Ok(false);
+    };
+    println!(rt;
+        "held 0 and {HELD}, rounds {rounds}: free at the end {none_free} and {held_free}"
+    )?;
+    if with_rates {
+        let none_rate = rate(rounds, 1, none_took);
+        let held_rate = rate(rounds, 1, held_took);
+        let ratio = Ratio::of(held_rate, none_rate);
+        println!(rt;
+            "  rounds a millisecond: with none held {none_rate}, with {HELD} {held_rate} (ratio {ratio})"
+        )?;
     }
     Ok(true)
 }
@@ -125,6 +157,9 @@ fn main(rt: HostRuntime) -> io::Result<()> {
         if !measure_heap(&rt, rt.alloc(), threads, rounds, asked.is_some())? {
             return Ok(());
         }
+    }
+    if !measure_held(&rt, rt.alloc(), rounds, asked.is_some())? {
+        return Ok(());
     }
     for callers in [1, 2, 4] {
         if !measure_port(&rt, rt.alloc(), callers, rounds, asked.is_some())? {

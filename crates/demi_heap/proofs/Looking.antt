@@ -29,14 +29,6 @@ looked_over c a b old new over = record {
   at = λ k low high. let x = over.all.at k low high in (x.0, x.1, x.2, subst (λ (l : Looks). get_elem? l x.1 ≡ some (x.0, k)) (sym over.grown) (at_longer over.more old x.1 (x.0, k) x.3));
 }
 
--- how many they are
-pub grown_by : (c a b : ℕ) (old new : Looks) → LookedOver c a b old new → length new ≡ length old + (b - a)
-grown_by c a b old new over = let n : length new ≡ length over.more + length old = ap length over.grown ∙ length-append over.more old in let once : length over.more ≡ b - a = over.once in omega arith
-
--- before the first look
-pub none_yet : (c a : ℕ) (old : Looks) → LookedOver c a a old old
-none_yet c a old = record { more = []; grown = refl; once = omega arith; all = record { at = λ k low high. absurd (omega arith) } }
-
 -- it found that the next slot has an owner
 pub looks_on : (v l n : V) (a k t : ℕ) → l ≡ looking_as v l → v.clock ≤ l.clock → a ≤ k → LookedOver v.clock a k v.missed l.missed → l.clock ≤ t → n ≡ view_missed l t k
     → (n ≡ looking_as v n) × (v.clock ≤ n.clock) × LookedOver v.clock a (k + 1) v.missed n.missed

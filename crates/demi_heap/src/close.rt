@@ -32,6 +32,21 @@ pub struct HeapEnd {
 
 type Ended = Closed<Option<Buf>, Global>;
 
+// A seat with a pass takes in one more.
+fn take_in(words: &Slots, seat: &mut HeapSeat, pass: HeapPass)
+    requires table { (seat.old.table_id ≡ words.now.table_id) × (pass.heap.table ≡ words.now.table_id) × (0 < words.now.table_id.words) }
+    requires some { 1 ≤ seat.old.me.0.passes }
+    ensures seat { (seat.new.table_id ≡ seat.old.table_id) × (seat.new.me.1 ≡ seat.old.me.1) × (seat.new.me.0.passes ≡ seat.old.me.0.passes + 1) }
+    ensures claims { (seat.new.me.0.claimed ≡ seat.old.me.0.claimed + pass.claimed) × (seat.new.me.0.ended ≡ seat.old.me.0.ended + pass.ended) }
+    ensures loans { (seat.new.me.0.loaned ≡ seat.old.me.0.loaned + pass.loaned) × (seat.new.me.0.returned ≡ seat.old.me.0.returned + pass.returned) }
+{
+    let HeapPass {
+        seat: other,
+        near: _,
+    } = pass;
+    take_pass(words, seat, other);
+}
+
 // The passes, joined into one.
 fn gather(words: &Slots, mut passes: Vec<HeapPass>) -> HeapSeat
     requires some { 0 < length passes.items }
@@ -43,11 +58,7 @@ fn gather(words: &Slots, mut passes: Vec<HeapPass>) -> HeapSeat
     let first = passes.pop().unwrap();
     let HeapPass { mut seat, near: _ } = first;
     while let Some(pass) = passes.pop() {
-        let HeapPass {
-            seat: other,
-            near: _,
-        } = pass;
-        take_pass(words, &mut seat, other);
+        take_in(words, &mut seat, pass);
     }
     passes.destroy_empty();
     seat

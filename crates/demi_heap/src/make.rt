@@ -73,17 +73,19 @@ fn build(alloc: Global, counts: Counts, passes: u32) -> Result<(Heap, HeapSeat),
 }
 
 // Deals the passes out, one by one.
-fn deal(words: &Slots, mut seat: HeapSeat, count: u32, passes: &mut Vec<HeapPass>)
+fn deal(words: &Slots, mut seat: HeapSeat, counts: &Counts, count: u32, passes: &mut Vec<HeapPass>)
     requires table { (seat.table_id ≡ words.now.table_id) × (0 < words.now.table_id.words) × (1 ≤ count) }
     requires seat { (seat.me ≡ (first_view words.now.key, [])) × (words.now.key.passes ≡ count) }
     requires room { (passes.old.items ≡ []) × (vec_len passes.old ≡ 0) × (count ≤ vec_capacity passes.old) }
     ensures len { length passes.new.items ≡ count }
     ensures new { All (λ p. p ≡ new_pass record { table = words.now.table_id; shape = words.now.key }) passes.new.items }
 {
-    let near = Near::of(0, 0, 0);
+    let mut near = Near::first_of(counts, count);
     for _ in 1..count {
         let one = deal_one(words, &mut seat);
+        let next = near.next_of(counts, count);
         passes.push_reserved(HeapPass { seat: one, near });
+        near = next;
     }
     passes.push_reserved(HeapPass { seat, near });
 }
@@ -104,7 +106,13 @@ impl Heap {
             return Err(NoMemory);
         };
         let (heap, seat) = build(alloc, counts, passes)?;
-        deal(&heap.table.shared, seat, passes, &mut dealt);
+        deal(
+            &heap.table.shared,
+            seat,
+            &heap.key.counts,
+            passes,
+            &mut dealt,
+        );
         Ok((heap, dealt))
     }
 }
