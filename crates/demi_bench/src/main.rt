@@ -1,5 +1,6 @@
 //! Claims and frees of the guarded heap, beside the same loop over a free list behind a mutex; and operations through one
-//! port, from submit to redeem, beside the same through channels.
+//! port, from submit to redeem, beside the same through channels; and a pop and a push of one memory queue, while items wait
+//! in others.
 //!
 //! With no argument it runs one small fixed case and prints counts alone. With a number of rounds it prints rates too, as
 //! in `demi_bench 2000000`. A rate is one of this run and this machine: compare those of one line.
@@ -10,6 +11,7 @@ mod channels;
 mod doubler;
 mod heap_loop;
 mod list_loop;
+mod memq_loop;
 mod port_loop;
 
 ghost use Rattle.std.specs.Prelude.{◌*◌, ◌≤◌};
@@ -118,6 +120,30 @@ fn measure_port<R: Threads + Clock + Wait + Print + Sync>(
     Ok(true)
 }
 
+/// Whether there was memory for it. A round of which the pop or the push was refused is an error.
+fn measure_memq<R: Clock + Wait + Print>(
+    rt: &R,
+    alloc: Global,
+    waiting: u32,
+    rounds: u32,
+    with_rates: bool,
+) -> io::Result<bool>
+    requires { waiting ≤ 1000 }
+{
+    let Some(measured) = memq_loop::run(rt, alloc, waiting, rounds)? else {
+        return Ok(false);
+    };
+    if measured.waited != waiting || measured.rounds != rounds {
+        return Err(io::Error::from(io::ErrorKind::InvalidData));
+    }
+    println!(rt; "waiting in other queues {waiting}: pops and pushes {}", measured.rounds)?;
+    if with_rates {
+        let queue_rate = rate(rounds, 1, measured.took);
+        println!(rt; "  pops and pushes a millisecond: {queue_rate}")?;
+    }
+    Ok(true)
+}
+
 fn main(rt: HostRuntime) -> io::Result<()> {
     let asked = rounds_asked(&rt)?;
     let rounds = asked.unwrap_or(FIXED_ROUNDS);
@@ -128,6 +154,11 @@ fn main(rt: HostRuntime) -> io::Result<()> {
     }
     for callers in [1, 2, 4] {
         if !measure_port(&rt, rt.alloc(), callers, rounds, asked.is_some())? {
+            return Ok(());
+        }
+    }
+    for waiting in [0, 100, 1000] {
+        if !measure_memq(&rt, rt.alloc(), waiting, rounds, asked.is_some())? {
             return Ok(());
         }
     }
