@@ -1,25 +1,33 @@
-//! Claims and frees of the guarded heap, beside the same loop over a free list behind a mutex, and beside the same while
-//! another pass holds slots of the class; and operations through one port, from submit to redeem, beside the same through
-//! channels.
+//! Claims and frees of the guarded heap, beside the same loop over a free list behind a mutex; operations through one port,
+//! from submit to redeem, beside the same through channels; a pop and a push of one memory queue, while items wait in others;
+//! how long a caller waits that asks one at a time; and links that are each served through three ports.
 //!
-//! With no argument it runs one small fixed case and prints counts alone. With a number of rounds it prints rates too, as
-//! in `demi_bench 2000000`. A rate is one of this run and this machine: compare those of one line.
+//! With no word it runs a small fixed case of each and prints counts alone. With a number of rounds it prints the rates of the
+//! first three, as in `demi_bench 2000000`. `demi_bench wait CALLERS OPERATIONS PAUSE` says how long an operation took after a
+//! pause of so many milliseconds, and `demi_bench chain LINKS REQUESTS SILENCE` how many requests a second the links served,
+//! after so many milliseconds in which all their threads slept. A rate is one of this run and this machine: compare those of
+//! one line.
 #![tactic(auto)]
 
+mod chain_loop;
 mod channel_loop;
 mod channels;
 mod doubler;
 mod heap_loop;
 mod list_loop;
+mod memq_loop;
+mod ping_loop;
 mod port_loop;
 
 ghost use Rattle.std.specs.Prelude.{◌*◌, ◌≤◌};
 ghost use Rattle.demi_bench.specs.declared.doubler.TheConstants.{TOKENS};
 ghost use Rattle.demi_bench.specs.declared.port_loop.TheConstants.{IN_FLIGHT};
 
+use crate::doubler::TOKENS;
 use std::alloc::Global;
 use std::fmt::{Display, Formatter, Write};
 use std::sync::Wait;
+use std::sync::atomic::{AtomicU64, Ordering};
 use std::thread::Threads;
 use std::time::{Clock, Duration};
 use std::{env, fmt, io};
@@ -53,11 +61,53 @@ impl Display for Ratio {
     }
 }
 
-/// The number of rounds that is asked for, if there is one.
-fn rounds_asked(rt: &HostRuntime) -> io::Result<Option<u32>> {
+/// What the words ask for.
+enum Asked {
+    Fixed,
+    Rates(u32),
+    Waits(Case),
+    Chains(Case),
+}
+
+/// How many callers or links, how many operations or requests of each, and a time in milliseconds.
+#[derive(Clone, Copy)]
+struct Case {
+    count: u32,
+    rounds: u32,
+    millis: u32,
+}
+
+fn number(word: Option<String>) -> Option<u32> {
+    word.and_then(|word| word.as_str().parse().ok())
+}
+
+/// `None` where the words ask for nothing.
+fn read_words(rt: &HostRuntime) -> io::Result<Option<Asked>> {
     let mut words = env::args(rt)?;
     let _program = words.next();
-    Ok(words.next().and_then(|word| word.as_str().parse().ok()))
+    let Some(first) = words.next() else {
+        return Ok(Some(Asked::Fixed));
+    };
+    if let Ok(rounds) = first.as_str().parse() {
+        return Ok(Some(Asked::Rates(rounds)));
+    }
+    let (Some(count), Some(rounds), Some(millis)) = (
+        number(words.next()),
+        number(words.next()),
+        number(words.next()),
+    ) else {
+        return Ok(None);
+    };
+    let case = Case {
+        count,
+        rounds,
+        millis,
+    };
+    Ok(match first.as_str() {
+        "wait" => Some(Asked::Waits(case)),
+        "chain" => Some(Asked::Chains(case)),
+        _ => None,
+    })
 }
 
 /// Whether there was memory for it.
@@ -150,21 +200,144 @@ fn measure_port<R: Threads + Clock + Wait + Print + Sync>(
     Ok(true)
 }
 
-fn main(rt: HostRuntime) -> io::Result<()> {
-    let asked = rounds_asked(&rt)?;
-    let rounds = asked.unwrap_or(FIXED_ROUNDS);
-    for threads in [1, 2, 4] {
-        if !measure_heap(&rt, rt.alloc(), threads, rounds, asked.is_some())? {
-            return Ok(());
+/// Whether there was memory for it. A round of which the pop or the push was refused is an error.
+fn measure_memq<R: Clock + Wait + Print>(
+    rt: &R,
+    alloc: Global,
+    waiting: u32,
+    rounds: u32,
+    with_rates: bool,
+) -> io::Result<bool>
+    requires { waiting ≤ 1000 }
+{
+    let Some(measured) = memq_loop::run(rt, alloc, waiting, rounds)? else {
+        return Ok(false);
+    };
+    if measured.waited != waiting || measured.rounds != rounds {
+        return Err(io::Error::from(io::ErrorKind::InvalidData));
+    }
+    println!(rt; "waiting in other queues {waiting}: pops and pushes {}", measured.rounds)?;
+    if with_rates {
+        let queue_rate = rate(rounds, 1, measured.took);
+        println!(rt; "  pops and pushes a millisecond: {queue_rate}")?;
+    }
+    Ok(true)
+}
+
+/// The time in microseconds within which so many of a hundred operations were answered.
+fn hundredth(times: &[AtomicU64], part: u64, all: u64) -> usize {
+    let mut seen: u64 = 0;
+    for (micros, count) in times.iter().enumerate() {
+        seen = seen.saturating_add(count.load(Ordering::SeqCst));
+        if seen.saturating_mul(100) >= all.saturating_mul(part) {
+            return micros;
         }
     }
-    if !measure_held(&rt, rt.alloc(), rounds, asked.is_some())? {
-        return Ok(());
+    times.len()
+}
+
+/// Whether there was memory for it, and there are as many tokens as callers.
+fn measure_waits<R: Threads + Clock + Wait + Print + Sync>(
+    rt: &R,
+    alloc: Global,
+    asked: Case,
+    with_times: bool,
+) -> io::Result<bool> {
+    let callers = asked.count.clamp(1, TOKENS);
+    let pause = Duration::from_millis(asked.millis as u64);
+    let mut times = Vec::with_capacity(alloc, ping_loop::LONGEST)?;
+    for _ in 0..ping_loop::LONGEST {
+        times.push(AtomicU64::new(0))?;
+    }
+    let Some(right) = ping_loop::run(rt, alloc, callers, asked.rounds, pause, &times)? else {
+        return Ok(false);
+    };
+    println!(rt; "callers {callers}, one at a time {}: doubled {right}", asked.rounds)?;
+    if with_times {
+        let half = hundredth(&times, 50, right);
+        let most = hundredth(&times, 90, right);
+        let late = hundredth(&times, 99, right);
+        println!(rt; "  microseconds after {} milliseconds: p50 {half}, p90 {most}, p99 {late}", asked.millis)?;
+    }
+    Ok(true)
+}
+
+/// Whether there was memory for it.
+fn measure_chains<R: Threads + Clock + Wait + Print + Sync>(
+    rt: &R,
+    alloc: Global,
+    asked: Case,
+    with_rates: bool,
+) -> io::Result<bool> {
+    let silence = Duration::from_millis(asked.millis as u64);
+    let Some(took) = chain_loop::run(rt, alloc, asked.count, asked.rounds, silence)? else {
+        return Ok(false);
+    };
+    println!(rt; "links {}, requests {}: served", asked.count, asked.rounds)?;
+    if with_rates {
+        let served = rate(asked.rounds, asked.count, took);
+        println!(rt; "  requests a millisecond: {served}")?;
+    }
+    Ok(true)
+}
+
+/// Heaps and ports with 1, 2 and 4 threads, and a queue while few and many items wait in others. Whether there was memory for it.
+fn measure_loops<R: Threads + Clock + Wait + Print + Sync>(
+    rt: &R,
+    alloc: Global,
+    rounds: u32,
+    with_rates: bool,
+) -> io::Result<bool> {
+    for threads in [1, 2, 4] {
+        if !measure_heap(rt, alloc, threads, rounds, with_rates)? {
+            return Ok(false);
+        }
+    }
+    if !measure_held(rt, alloc, rounds, with_rates)? {
+        return Ok(false);
     }
     for callers in [1, 2, 4] {
-        if !measure_port(&rt, rt.alloc(), callers, rounds, asked.is_some())? {
-            return Ok(());
+        if !measure_port(rt, alloc, callers, rounds, with_rates)? {
+            return Ok(false);
         }
     }
-    Ok(())
+    for waiting in [0, 100, 1000] {
+        if !measure_memq(rt, alloc, waiting, rounds, with_rates)? {
+            return Ok(false);
+        }
+    }
+    Ok(true)
+}
+
+/// The small fixed case of each. Whether there was memory for it.
+fn measure_fixed<R: Threads + Clock + Wait + Print + Sync>(rt: &R, alloc: Global) -> io::Result<bool> {
+    let waits = Case {
+        count: 3,
+        rounds: 40,
+        millis: 1,
+    };
+    let chains = Case {
+        count: 2,
+        rounds: 200,
+        millis: 1,
+    };
+    Ok(measure_loops(rt, alloc, FIXED_ROUNDS, false)?
+        && measure_waits(rt, alloc, waits, false)?
+        && measure_chains(rt, alloc, chains, false)?)
+}
+
+fn main(rt: HostRuntime) -> io::Result<()> {
+    let alloc = rt.alloc();
+    let found_memory = match read_words(&rt)? {
+        None => return Err(io::Error::from(io::ErrorKind::InvalidInput)),
+        Some(Asked::Fixed) => measure_fixed(&rt, alloc)?,
+        Some(Asked::Rates(rounds)) => measure_loops(&rt, alloc, rounds, true)?,
+        Some(Asked::Waits(case)) => measure_waits(&rt, alloc, case, true)?,
+        Some(Asked::Chains(case)) => measure_chains(&rt, alloc, case, true)?,
+    };
+    if found_memory {
+        Ok(())
+    } else {
+        Err(io::Error::from(io::ErrorKind::OutOfMemory))
+    }
 }
