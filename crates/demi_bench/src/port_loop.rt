@@ -24,7 +24,12 @@ use std::time::{Clock, Duration, Instant};
 pub const IN_FLIGHT: u32 = 8;
 
 // Submits until a token is had. All callers together keep no more in flight than there are tokens.
-fn submit<R: Wait>(rt: &R, port: &Port<Doubles>, pass: &mut PortPass<Doubles>, op: u32) -> Token
+pub(crate) fn submit<R: Wait>(
+    rt: &R,
+    port: &Port<Doubles>,
+    pass: &mut PortPass<Doubles>,
+    op: u32,
+) -> Token
     requires { pass.old.port ≡ port.now }
     ensures same { (pass.new.port ≡ pass.old.port) × (pass.new.number ≡ pass.old.number) }
     ensures submitted { (p : ℕ) × (pass.new.submitted ≡ pass.old.submitted ++ (p, (result.0, op)) ∷ []) }
@@ -40,7 +45,12 @@ fn submit<R: Wait>(rt: &R, port: &Port<Doubles>, pass: &mut PortPass<Doubles>, o
 }
 
 // Tries until the outcome is there. A pass's own token that it did not redeem is neither spent nor unknown.
-fn redeem<R: Wait>(rt: &R, port: &Port<Doubles>, pass: &mut PortPass<Doubles>, token: Token) -> u64
+pub(crate) fn redeem<R: Wait>(
+    rt: &R,
+    port: &Port<Doubles>,
+    pass: &mut PortPass<Doubles>,
+    token: Token,
+) -> u64
     requires { pass.old.port ≡ port.now }
     ensures same { (pass.new.port ≡ pass.old.port) × (pass.new.number ≡ pass.old.number) }
     ensures redeemed { (p : ℕ) × (pass.new.redeemed ≡ pass.old.redeemed ++ (p, token.0) ∷ []) × IsTwice pass.new.heard p result }
@@ -136,7 +146,7 @@ fn run_both<R: Threads + Wait + Sync>(
 }
 
 // Closes a port of which nothing was asked.
-fn close_unused(port: Port<Doubles>, seat: DeviceSeat<Doubles>, passes: Vec<PortPass<Doubles>>)
+pub(crate) fn close_unused(port: Port<Doubles>, seat: DeviceSeat<Doubles>, passes: Vec<PortPass<Doubles>>)
     requires seat { IsNewSeat port (length passes.items) seat }
     requires passes { NewFrom port 0 passes.items }
 {
