@@ -115,6 +115,8 @@ fn over_heap<R: Threads + Wait + Sync, S: Source + Send, T: Sink + Send>(
 }
 
 /// Copies what the source gives to the sink, until the source ends or one of them fails. It may wait.
+///
+/// Not said: that what was written is what was read.
 pub fn copy<R: Threads + Wait + Sync, S: Source + Send, T: Sink + Send>(
     rt: &R,
     alloc: Global,
