@@ -1,5 +1,5 @@
 -- How the thread that carries stands between two operations.
-use Rattle.std.specs.Prelude.{◌≡◌, ℕ, length}
+use Rattle.std.specs.Prelude.{◌≡◌, length}
 use Rattle.demi_heap.specs.Seen.{HeapId}
 use Rattle.demi_port.specs.Seen.{PassValue, PortId}
 use Rattle.demi_copy.specs.declared.carrier.Carrier.{Carrier}

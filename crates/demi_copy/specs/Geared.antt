@@ -1,5 +1,5 @@
 -- What a copy has before its run and after it.
-use Rattle.std.specs.Prelude.{◌≡◌, ℕ, ◌⊎◌, [], List, Bool}
+use Rattle.std.specs.Prelude.{◌≡◌, ◌⊎◌, [], List, Bool}
 use Rattle.demi_device.specs.Serving.{HasStop}
 use Rattle.demi_heap.specs.Seen.{HeapId}
 use Rattle.demi_port.specs.Seen.{DeviceValue, IsNewSeat, PortId}

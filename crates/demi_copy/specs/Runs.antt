@@ -1,5 +1,5 @@
 -- What a device's run leaves behind.
-use Rattle.std.specs.Prelude.{◌≡◌, ℕ, List, Bool}
+use Rattle.std.specs.Prelude.{◌≡◌, List, Bool}
 use Rattle.demi_device.specs.Turning.{IsOver, WholeDevice}
 
 -- the engine is of the same base, the port is the same, a stop was served, and so was each operation that was fetched

@@ -1,5 +1,5 @@
 -- What the tests keep between two operations.
-use Rattle.std.specs.Prelude.{◌≡◌, ℕ, length}
+use Rattle.std.specs.Prelude.{◌≡◌, length}
 use Rattle.demi_port.specs.Seen.{PassValue, PortId}
 
 -- the first pass of the port, with nothing in flight
