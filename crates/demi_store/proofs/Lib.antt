@@ -8,3 +8,7 @@ pub mod Heard
 pub mod Opened
 pub mod Drafts
 pub mod Examples
+pub mod Saying
+pub mod Steps
+pub mod Pasts
+pub mod Stopping

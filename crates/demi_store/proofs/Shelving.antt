@@ -1,11 +1,11 @@
 -- What the calls of a log leave of its records.
-use Rattle.std.proofs.Common.{◌≡◌, ℕ, zero, suc, ◌+◌, ◌-◌, ◌<◌, min, List, [], ◌∷◌, ◌++◌, length, map, take, drop, get_or, Option, None, Some, Bool, true, false, refl, ap, sym, ◌∙◌, arith, cond, subst, length-append, inl, inr}
-use Rattle.std.specs.Prelude.{bytes_eq, IfSome, slice_index, Err}
+use Rattle.std.proofs.Common.{◌≡◌, ℕ, zero, suc, ◌+◌, ◌-◌, ◌<◌, ◌≤◌, min, List, [], ◌∷◌, ◌++◌, length, map, take, drop, get_or, Option, None, Some, Bool, true, false, refl, ap, sym, ◌∙◌, arith, cond, subst, length-append, length-take, inl, inr}
+use Rattle.std.specs.Prelude.{bytes_eq, IfSome, slice_index, replicate, Err}
 use Rattle.std.specs.List.{AllByRecursion}
 use Rattle.std.specs.Cmp.Lexicographic.{bytes_decides}
 use Rattle.std.specs.Io.KnownBytes.{append_known}
 use Rattle.std.proofs.Math.Seq.{take-append_seam, drop-append_seam}
-use Rattle.std.proofs.lemmas.List.{drop-drop, take_all}
+use Rattle.std.proofs.lemmas.List.{drop-drop, length-replicate, take_all}
 use Rattle.demi_core.specs.Outside.{GrowsByFront, Rose}
 use Rattle.demi_spec.specs.LogText.{entry}
 use Rattle.demi_spec.specs.Record.{Record, IsRecord, payload}
@@ -86,6 +86,40 @@ value_got told records key room j n size from all is large behind count read =
     told_of None r at here long read = tt
     told_of (Some b) r at here long read =
         read ∙ ap (λ (l : List ℕ). take n (drop from l)) at ∙ ap (λ k. take n (drop k (payload r))) here ∙ ap (take n) (value_of r) ∙ take_all n r.value (omega arith)
+
+-- a room that was given a length has it
+pub sized_length : (n : ℕ) (a : List ℕ) → length (take n a ++ replicate (n - length a) 0) ≡ n
+sized_length n a = omega (arith, length-append (take n a) (replicate (n - length a) 0), length-take n a, length-replicate {A = ℕ} (n - length a) 0)
+
+-- the record that a key's entry has
+pub value_at : (told : Option (List ℕ)) (records : List Record) (key : List ℕ) (j from : ℕ) → AllByRecursion IsRecord records → last_with records key ≡ Some j → from ≡ 7 + length key
+    → (r : Record) × (store.map records key ≡ Some r.value) × (drop from (get_or (map payload records) j []) ≡ r.value) × (length (get_or (map payload records) j []) ≡ from + length r.value) × (length r.value ≤ 65536)
+value_at told records key j from all is behind =
+    let h = last_has records key (Some j) is in
+    let same : j - 0 ≡ j = omega arith in
+    let less : j < length records = omega (arith, h.within) in
+    let r : Record = get_or records j no_record in
+    let at : get_or (map payload records) j [] ≡ payload r = payload_at records j less in
+    let keys : r.key ≡ key = (bytes_decides r.key key).0 (ap (λ i. bytes_eq (get_or records i no_record).key key) (sym same) ∙ h.same) in
+    let here : from ≡ 7 + length r.key = behind ∙ ap (λ (l : List ℕ). 7 + length l) (sym keys) in (
+      r,
+      h.value ∙ ap (λ i. Some (get_or records i no_record).value) same,
+      ap (λ (l : List ℕ). drop from l) at ∙ ap (λ k. drop k (payload r)) here ∙ value_of r,
+      omega (arith, ap length at, length_of r),
+      (fits_at records j all less).value,
+    )
+
+-- a value that was read whole
+pub value_read : (told : Option (List ℕ)) (records : List Record) (key room : List ℕ) (j from : ℕ) → AllByRecursion IsRecord records → last_with records key ≡ Some j → from ≡ 7 + length key
+    → length room ≡ length (get_or (map payload records) j []) - from → IfSome told (λ _. room ≡ drop from (get_or (map payload records) j []))
+    → (value : List ℕ) × (store.map records key ≡ Some value) × (length room ≡ length value) × IfSome told (λ _. take (length room) room ≡ value)
+value_read told records key room j from all is behind count read =
+    let v = value_at told records key j from all is behind in
+    let long = v.3 in (v.0.value, v.1, omega arith, told_of told v.0 v.2 read)
+  where
+    told_of : (o : Option (List ℕ)) (r : Record) → drop from (get_or (map payload records) j []) ≡ r.value → IfSome o (λ _. room ≡ drop from (get_or (map payload records) j [])) → IfSome o (λ _. take (length room) room ≡ r.value)
+    told_of None r e read = tt
+    told_of (Some b) r e read = take_all (length room) room (omega arith) ∙ read ∙ e
 
 module _ {D : Type 0} (bytes : D → Option (List ℕ)) where
   -- nothing changed but how the index lies

@@ -8,3 +8,5 @@ pub mod Cores
 pub mod History
 pub mod Laws
 pub mod Steady
+pub mod Serving
+pub mod Engine

@@ -4,6 +4,8 @@ ghost use Rattle.demi_core.specs.Outside.{Rose};
 ghost use Rattle.demi_spec.specs.Record.{Record, payload, record_of, records as records_of_text};
 ghost use Rattle.demi_logq.specs.Logged.{Holds, IsSound};
 ghost use Rattle.demi_store.specs.Cores.{Core, CorePut, drafted};
+ghost use Rattle.demi_buf.specs.declared.class.Class.TheVariants.{Large as large};
+ghost use Rattle.demi_store.specs.Laws.{SameSlot};
 ghost use Rattle.demi_store.specs.Openings.{BeginsEntry};
 ghost use Rattle.demi_store.specs.Shelves.{GotIs};
 
@@ -15,6 +17,7 @@ use crate::shelf::Shelf;
 use demi_core::Disk;
 use demi_device::Mark;
 use demi_frame::Key;
+use demi_heap::AppBuf;
 use demi_logq::{Log, LogRefusal, MAX_PAYLOAD_BYTES};
 use demi_port_core::Place;
 use std::alloc::Global;
@@ -185,6 +188,21 @@ impl<D: Disk> StoreCore<D> {
         ensures later { D.faults self.old.log.disk ≤ D.faults self.new.log.disk }
     {
         self.shelf.get(place, key.as_slice(), room, &self.records)
+    }
+
+    /// The same into a room of the heap, of class Large, whose bytes are then just those of the value, and none where there is none.
+    pub(crate) fn fetch(&mut self, place: Place, key: &Key, room: &mut AppBuf) -> StoreAnswer
+        requires room { room.old.class ≡ large }
+        ensures got { GotIs D.bytes D.faults self.old.log self.old.fault self.new.log self.new.fault self.old.records place.0 key.now.items room.new.bytes result (length room.new.bytes) }
+        ensures room { SameSlot room.old room.new }
+        ensures same { self.new ≡ record self.old { log = self.new.log; fault = self.new.fault } }
+        ensures log { self.new.log ≡ record self.old.log { disk = self.new.log.disk } }
+        ensures bytes { D.bytes self.new.log.disk ≡ D.bytes self.old.log.disk }
+        ensures held { D.held self.new.log.disk ≡ D.held self.old.log.disk }
+        ensures calls { D.looks self.old.log.disk self.new.log.disk }
+        ensures later { D.faults self.old.log.disk ≤ D.faults self.new.log.disk }
+    {
+        self.shelf.fetch(place, key.as_slice(), room, &self.records)
     }
 
     /// The log.
