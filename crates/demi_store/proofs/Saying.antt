@@ -3,12 +3,9 @@ use Rattle.std.proofs.Common.{◌≡◌, ℕ, ◌+◌, ◌<◌, ◌≤◌, List,
 use Rattle.std.specs.Prelude.{Option, Some, None, IfSome, nat_le, option_map}
 use Rattle.std.proofs.lemmas.List.{append-nil, take_all}
 use Rattle.std.proofs.lemmas.Bool.Decides.{nat_tests}
-use Rattle.std.specs.Io.KnownBytes.{append_known}
 use Rattle.arrayvec.specs.ArrayVec.{ArrayVec}
-use Rattle.demi_core.specs.Outside.{Rose}
 use Rattle.demi_heap.specs.Seen.{HalfValue}
 use Rattle.demi_logq.specs.Items.{tells}
-use Rattle.demi_logq.specs.Logged.{Logged}
 use Rattle.demi_logq.proofs.Saying.{tells_append}
 use Rattle.demi_port_core.specs.declared.place.Place.{Place}
 use Rattle.demi_spec.specs.Input.{Request_of}
@@ -20,17 +17,16 @@ use Rattle.demi_spec.specs.Store.{found, map}
 use Rattle.demi_store.specs.declared.answer.StoreAnswer.{StoreAnswer}
 use Rattle.demi_store.specs.declared.answer.StoreAnswer.TheVariants as said
 use Rattle.demi_store.specs.declared.back.Back.{Back}
-use Rattle.demi_store.specs.declared.back.Back.TheVariants.{Nothing, Value, Room}
+use Rattle.demi_store.specs.declared.back.Back.TheVariants.{Room}
 use Rattle.demi_store.specs.declared.op.StoreOp.{StoreOp}
-use Rattle.demi_store.specs.declared.op.StoreOp.TheVariants.{Put, Get, Stop}
+use Rattle.demi_store.specs.declared.op.StoreOp.TheVariants.{Put, Get}
 use Rattle.demi_store.specs.declared.out.StoreOut.{StoreOut}
-use Rattle.demi_store.specs.declared.told.StoreTold.{StoreTold}
 use Rattle.demi_store.specs.declared.told.StoreTold.TheVariants.{ByDisk, ByMemory}
 use Rattle.demi_store.specs.Cores.{Core, CorePut}
-use Rattle.demi_store.specs.History.{Said, Told, Fault, NoMemory, Broken, Stopped, Halted, Standing, answered, said_by, said_open, record_of_put, value_bytes}
+use Rattle.demi_store.specs.History.{Said, Told, Fault, NoMemory, Broken, Stopped, Standing, answered, said_by, said_open, record_of_put, value_bytes}
 use Rattle.demi_store.specs.Laws.{StoreBasis, BackIs, SameSlot, SaysTo, ValueIs, AllSame, told_of}
-use Rattle.demi_store.specs.Serving.{Answered, LogGoes, Moves, Shows}
-use Rattle.demi_store.specs.Shelves.{Fails, GotIs, Grows}
+use Rattle.demi_store.specs.Serving.{Answered, Moves, Shows}
+use Rattle.demi_store.specs.Shelves.{GotIs}
 
 no_room : (limit n : ℕ) → limit ≤ n → nat_le limit n ≡ true
 no_room limit n e = grind (arith, nat_tests)
@@ -59,11 +55,15 @@ stopped_answered told limit p s Show at stop op o is show =
 module _ (limit link index : ℕ) (key : ArrayVec ℕ) (value : Option (List HalfValue)) (s : Standing) where
   by_room : (full : Bool) → nat_le limit (length s.records) ≡ full
       → answered limit link index s (Request_of (request.Put key.items (value_bytes value)))
-      ≡ (Told (Rattle.std.specs.Bool.if◌then◌else◌ full (reply.Full (length s.records)) (reply.Stored (length s.records + 1) (value_bytes value))),
-        record s { records = s.records ++ Rattle.std.specs.Bool.if◌then◌else◌ full [] (record_of_put link index key value ∷ []) })
+      ≡ (
+        Told (Rattle.std.specs.Bool.if◌then◌else◌ full (reply.Full (length s.records)) (reply.Stored (length s.records + 1) (value_bytes value))),
+        record s { records = s.records ++ Rattle.std.specs.Bool.if◌then◌else◌ full [] (record_of_put link index key value ∷ []) },
+      )
   by_room full e =
-      ap (λ (b : Bool). (Told (Rattle.std.specs.Bool.if◌then◌else◌ b (reply.Full (length s.records)) (reply.Stored (length s.records + 1) (value_bytes value))),
-        record s { records = s.records ++ Rattle.std.specs.Bool.if◌then◌else◌ b [] (record_of_put link index key value ∷ []) })) e
+      ap (λ (b : Bool). (
+        Told (Rattle.std.specs.Bool.if◌then◌else◌ b (reply.Full (length s.records)) (reply.Stored (length s.records + 1) (value_bytes value))),
+        record s { records = s.records ++ Rattle.std.specs.Bool.if◌then◌else◌ b [] (record_of_put link index key value ∷ []) },
+      )) e
 
   stored_is : length s.records < limit → answered limit link index s (Request_of (request.Put key.items (value_bytes value)))
       ≡ (Told (reply.Stored (length s.records + 1) (value_bytes value)), record s { records = s.records ++ record_of_put link index key value ∷ [] })

@@ -1,5 +1,5 @@
 -- How a store stands for what its operations made of it, and what one operation does.
-use Rattle.std.specs.Prelude.{◌≡◌, ℕ, ◌≤◌, Bool, List, length, Option, None, option_map}
+use Rattle.std.specs.Prelude.{◌≡◌, ℕ, ◌≤◌, Bool, List, Option, None, option_map}
 use Rattle.demi_core.specs.Outside.{Rose}
 use Rattle.demi_logq.specs.Items.{tells}
 use Rattle.demi_logq.specs.Logged.{Logged}
@@ -7,7 +7,7 @@ use Rattle.demi_port_core.specs.declared.place.Place.{Place}
 use Rattle.demi_store.specs.declared.answer.StoreAnswer.{StoreAnswer}
 use Rattle.demi_store.specs.declared.answer.StoreAnswer.TheVariants as said
 use Rattle.demi_store.specs.declared.op.StoreOp.{StoreOp}
-use Rattle.demi_store.specs.declared.op.StoreOp.TheVariants.{Put, Get, Stop}
+use Rattle.demi_store.specs.declared.op.StoreOp.TheVariants.{Put, Get}
 use Rattle.demi_store.specs.declared.out.StoreOut.{StoreOut}
 use Rattle.demi_store.specs.Cores.{Core}
 use Rattle.demi_store.specs.History.{Standing, said_by, record_of_put}

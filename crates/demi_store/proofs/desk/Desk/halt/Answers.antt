@@ -1,4 +1,4 @@
-use Rattle.std.proofs.Common.{◌≡◌, ℕ, ap, sym, ◌∙◌, refl, Some, Option}
+use Rattle.std.proofs.Common.{ap, sym, ◌∙◌, refl, Some}
 use Rattle.std.specs.Prelude.{option_map}
 use Rattle.demi_port_core.specs.declared.place.Place.{Place}
 use Rattle.demi_store.specs.declared.op.StoreOp.TheVariants.{Stop}

@@ -1,4 +1,4 @@
-use Rattle.std.proofs.Common.{◌≡◌, ◌≤◌, ℕ, List, length, ap, sym, subst, arith, Option, Some, None}
+use Rattle.std.proofs.Common.{◌≤◌, List, length, ap, sym, subst, arith, Option, Some, None}
 use Rattle.demi_logq.proofs.Pieces.{count_is}
 use Rattle.demi_store.specs.Cores.{Core, CorePut}
 use Rattle.demi_store.specs.declared.back.Back.TheVariants.{Nothing, Value}

@@ -1,4 +1,4 @@
-use Rattle.std.proofs.Common.{◌≡◌, ◌+◌, ◌-◌, ◌<◌, ◌≤◌, ℕ, List, [], length, refl, arith, sym, ◌∙◌, subst, Some, None, take, drop, get_or, map, ap}
+use Rattle.std.proofs.Common.{◌≡◌, ◌+◌, ◌-◌, ◌<◌, ◌≤◌, ℕ, [], length, refl, arith, sym, ◌∙◌, subst, get_or, map, ap}
 use Rattle.demi_buf.specs.Bufs.{size_of}
 use Rattle.demi_buf.specs.declared.class.Class.{Class}
 use Rattle.demi_heap.specs.Seen.{HalfValue}
