@@ -1,6 +1,8 @@
 // Stores over logs in memory.
 ghost use Rattle.std.specs.Prelude.{◌≡◌, ◌<◌, ◌≤◌, IfOk, None, length};
 
+mod served;
+
 use crate::{StoreAnswer, StoreCore};
 use demi_core::MemDisk;
 use demi_frame::Key;
