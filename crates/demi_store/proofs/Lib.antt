@@ -1,3 +1,14 @@
 pub mod Growth
 pub mod Plains
 pub mod Gets
+pub mod Keys
+pub mod Lasts
+pub mod Shelving
+pub mod Heard
+pub mod Opened
+pub mod Drafts
+pub mod Examples
+pub mod Saying
+pub mod Steps
+pub mod Pasts
+pub mod Stopping

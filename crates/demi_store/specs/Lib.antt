@@ -1,3 +1,12 @@
 pub mod Contents
 pub mod Plain
 pub mod Inside
+pub mod Finding
+pub mod Shelves
+pub mod Openings
+pub mod Cores
+pub mod History
+pub mod Laws
+pub mod Steady
+pub mod Serving
+pub mod Engine
