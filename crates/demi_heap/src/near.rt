@@ -9,8 +9,8 @@ use std::marker::Model;
 const NO_SLOT: u32 = u32::MAX;
 
 // Two slots of one class that may be free: the one that the pass freed last, unless it has claimed since, and the one behind
-// the last that it claimed beside those. So a pass that claims and frees in turn stays at one slot, and one whose slots end
-// elsewhere walks over a held slot once in a whole round of its claims.
+// the last that it claimed beside those. So a pass that claims and frees in turn stays at one slot, and the claims of one
+// whose slots are freed elsewhere go on where the last ended, and come to a held slot again only once round the class.
 #[derive(Clone, Copy)]
 struct Spot {
     freed: u32,
