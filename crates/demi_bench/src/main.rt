@@ -216,7 +216,10 @@ fn measure_memq<R: Clock + Wait + Print>(
     if measured.waited != waiting || measured.rounds != rounds {
         return Err(io::Error::from(io::ErrorKind::InvalidData));
     }
-    println!(rt; "waiting in other queues {waiting}: pops and pushes {}", measured.rounds)?;
+    println!(rt;
+        "waiting in other queues {waiting}: pops and pushes {}",
+        measured.rounds
+    )?;
     if with_rates {
         let queue_rate = rate(rounds, 1, measured.took);
         println!(rt; "  pops and pushes a millisecond: {queue_rate}")?;
@@ -252,12 +255,18 @@ fn measure_waits<R: Threads + Clock + Wait + Print + Sync>(
     let Some(right) = ping_loop::run(rt, alloc, callers, asked.rounds, pause, &times)? else {
         return Ok(false);
     };
-    println!(rt; "callers {callers}, one at a time {}: doubled {right}", asked.rounds)?;
+    println!(rt;
+        "callers {callers}, one at a time {}: doubled {right}",
+        asked.rounds
+    )?;
     if with_times {
         let half = hundredth(&times, 50, right);
         let most = hundredth(&times, 90, right);
         let late = hundredth(&times, 99, right);
-        println!(rt; "  microseconds after {} milliseconds: p50 {half}, p90 {most}, p99 {late}", asked.millis)?;
+        println!(rt;
+            "  microseconds after {} milliseconds: p50 {half}, p90 {most}, p99 {late}",
+            asked.millis
+        )?;
     }
     Ok(true)
 }
@@ -310,7 +319,10 @@ fn measure_loops<R: Threads + Clock + Wait + Print + Sync>(
 }
 
 /// The small fixed case of each. Whether there was memory for it.
-fn measure_fixed<R: Threads + Clock + Wait + Print + Sync>(rt: &R, alloc: Global) -> io::Result<bool> {
+fn measure_fixed<R: Threads + Clock + Wait + Print + Sync>(
+    rt: &R,
+    alloc: Global,
+) -> io::Result<bool> {
     let waits = Case {
         count: 3,
         rounds: 40,
@@ -321,9 +333,11 @@ fn measure_fixed<R: Threads + Clock + Wait + Print + Sync>(rt: &R, alloc: Global
         rounds: 200,
         millis: 1,
     };
-    Ok(measure_loops(rt, alloc, FIXED_ROUNDS, false)?
-        && measure_waits(rt, alloc, waits, false)?
-        && measure_chains(rt, alloc, chains, false)?)
+    Ok(
+        measure_loops(rt, alloc, FIXED_ROUNDS, false)?
+            && measure_waits(rt, alloc, waits, false)?
+            && measure_chains(rt, alloc, chains, false)?,
+    )
 }
 
 fn main(rt: HostRuntime) -> io::Result<()> {

@@ -146,7 +146,11 @@ fn run_both<R: Threads + Wait + Sync>(
 }
 
 // Closes a port of which nothing was asked.
-pub(crate) fn close_unused(port: Port<Doubles>, seat: DeviceSeat<Doubles>, passes: Vec<PortPass<Doubles>>)
+pub(crate) fn close_unused(
+    port: Port<Doubles>,
+    seat: DeviceSeat<Doubles>,
+    passes: Vec<PortPass<Doubles>>,
+)
     requires seat { IsNewSeat port (length passes.items) seat }
     requires passes { NewFrom port 0 passes.items }
 {

@@ -64,11 +64,16 @@ module _ {X : Type 0} where
   pub holds_pop : (q : ℕ) (o : Option X) (r : List (Option X)) (items : List (ℕ × X)) (chains : List (List (Option X))) → Holds items chains → q < length chains → get_or chains q [] ≡ o ∷ r
       → (x : X) × (o ≡ Some x) × (beside q items ≡ x ∷ beside q (rest q items)) × (length (rest q items) + 1 ≡ length items) × Holds (rest q items) (set chains q r)
   holds_pop q o r items chains h lt is =
-      let f = first_held (beside q items) o r (sym is ∙ h q) in let same = rest_same q f.0 f.1 items f.2 in
-      (f.0, f.3, f.2 ∙ ap (λ l. f.0 ∷ l) (sym same), rest_length q f.0 f.1 items f.2, λ j.
-      by_number (λ j. get_or (set chains q r) j [] ≡ map Some (beside j (rest q items))) q j
-      (get_or-set_same chains q r [] lt ∙ f.4 ∙ ap (map Some) (sym same))
-      (λ ne. get_or-set_other chains q j r [] (λ e. ne (sym e)) ∙ h j ∙ ap (map Some) (sym (rest_other q j items ne))))
+      let f = first_held (beside q items) o r (sym is ∙ h q) in let same = rest_same q f.0 f.1 items f.2 in (
+        f.0,
+        f.3,
+        f.2 ∙ ap (λ l. f.0 ∷ l) (sym same),
+        rest_length q f.0 f.1 items f.2,
+        λ j.
+            by_number (λ j. get_or (set chains q r) j [] ≡ map Some (beside j (rest q items))) q j
+            (get_or-set_same chains q r [] lt ∙ f.4 ∙ ap (map Some) (sym same))
+            (λ ne. get_or-set_other chains q j r [] (λ e. ne (sym e)) ∙ h j ∙ ap (map Some) (sym (rest_other q j items ne))),
+      )
 
   pub none_first : (q : ℕ) (items : List (ℕ × X)) (chains : List (List (Option X))) → Holds items chains → get_or chains q [] ≡ [] → beside q items ≡ []
   none_first q items chains h is = none_if (beside q items) (sym (h q) ∙ is)

@@ -4,7 +4,8 @@ ghost use Rattle.demi_memq.specs.Counting.{beside};
 ghost use Rattle.demi_memq.specs.Rooms.{rest};
 
 use crate::nodes::{
-    Nodes, cut_first, end_item, end_lists, end_nodes, exchange, make_lists, make_nodes, put_first, put_last,
+    Nodes, cut_first, end_item, end_lists, end_nodes, exchange, make_lists, make_nodes, put_first,
+    put_last,
 };
 use demi_core::NoMemory;
 use demi_device::Mark;
