@@ -7,6 +7,7 @@ ghost use Rattle.demi_bench.specs.Serving.{IsDone};
 
 use crate::doubler;
 use crate::doubler::{Doubler, TOKENS};
+use crate::idling::Idling;
 use crate::port_loop::{close_unused, redeem, submit};
 use demi_device::Device;
 use demi_port::{DeviceSeat, Port, PortPass};
@@ -20,6 +21,17 @@ use std::time::{Clock, Duration, Instant};
 
 /// How many requests come with one pop.
 const BATCH: u32 = 64;
+
+/// What each link is asked.
+#[derive(Clone, Copy)]
+pub struct Load {
+    /// How many requests.
+    pub requests: u32,
+    /// How long its source is silent before the first.
+    pub silence: Duration,
+    /// How its threads wait.
+    pub idling: Idling,
+}
 
 // A port that one caller asks and one device serves. The vector is the one in which its pass was given.
 struct Way {
@@ -92,18 +104,24 @@ impl Way {
 }
 
 // Asks once and waits for the answer.
-fn ask<R: Wait>(rt: &R, port: &Port<Doubles>, pass: &mut PortPass<Doubles>, op: u32) -> u64
+fn ask<R: Wait>(
+    rt: &R,
+    port: &Port<Doubles>,
+    pass: &mut PortPass<Doubles>,
+    idling: Idling,
+    op: u32,
+) -> u64
     requires { IsFirst port.now pass.old }
     ensures { IsFirst port.now pass.new }
 {
     let token = submit(rt, port, pass, op);
-    redeem(rt, port, pass, token)
+    redeem(rt, port, pass, idling, token)
 }
 
 // The worker's part of a link: how many answers were right.
 fn work<R: Wait>(
     rt: &R,
-    requests: u32,
+    load: Load,
     rx: &Port<Doubles>,
     rx_pass: &mut PortPass<Doubles>,
     store: &Port<Doubles>,
@@ -118,35 +136,34 @@ fn work<R: Wait>(
     ensures store { IsFirst store.now store_pass.new }
     ensures tx { IsFirst tx.now tx_pass.new }
 {
+    let Load {
+        requests,
+        silence: _,
+        idling,
+    } = load;
     for op in 0..requests {
         if op % BATCH == 0 {
-            ask(rt, rx, rx_pass, op);
+            ask(rt, rx, rx_pass, idling, op);
         }
-        ask(rt, store, store_pass, op);
-        ask(rt, tx, tx_pass, op);
+        ask(rt, store, store_pass, idling, op);
+        ask(rt, tx, tx_pass, idling, op);
     }
 }
 
 // The device that receives, whose source has nothing to give for a while.
-fn receive<R: Wait + Clock>(
-    rt: &R,
-    silence: Duration,
-    port: &Port<Doubles>,
-    device: &mut Device<Doubler>,
-    pops: u64,
-)
+fn receive<R: Wait + Clock>(rt: &R, load: Load, port: &Port<Doubles>, device: &mut Device<Doubler>)
     requires { device.old.seat.port ≡ port.now }
     ensures { IsDone device.old device.new }
 {
-    sleep(rt, silence);
-    doubler::run(rt, port, device, pops);
+    sleep(rt, load.silence);
+    let pops = load.requests.div_ceil(BATCH) as u64;
+    doubler::run(rt, port, device, load.idling, pops);
 }
 
 // The worker, and the device that receives.
 fn work_and_receive<R: Threads + Wait + Clock + Sync>(
     rt: &R,
-    requests: u32,
-    silence: Duration,
+    load: Load,
     rx: &Port<Doubles>,
     rx_device: &mut Device<Doubler>,
     rx_pass: &mut PortPass<Doubles>,
@@ -160,22 +177,21 @@ fn work_and_receive<R: Threads + Wait + Clock + Sync>(
     ensures passes { IsFirst rx.now rx_pass.new × IsFirst store.now store_pass.new × IsFirst tx.now tx_pass.new }
     ensures device { IsDone rx_device.old rx_device.new }
 {
-    let pops = requests.div_ceil(BATCH) as u64;
     let mut working = ||
         requires { IsFirst rx.now rx_pass.now × IsFirst store.now store_pass.now × IsFirst tx.now tx_pass.now }
         ensures { IsFirst rx.entry.now rx_pass.exit.now × IsFirst store.entry.now store_pass.exit.now × IsFirst tx.entry.now tx_pass.exit.now }
-    { work(rt, requests, rx, rx_pass, store, store_pass, tx, tx_pass) };
+    { work(rt, load, rx, rx_pass, store, store_pass, tx, tx_pass) };
     let mut receiving = ||
         requires { rx_device.now.seat.port ≡ rx.now }
         ensures { IsDone rx_device.entry.now rx_device.exit.now }
-    { receive(rt, silence, rx, rx_device, pops) };
+    { receive(rt, load, rx, rx_device) };
     join_mut(rt, &mut working, &mut receiving);
 }
 
 // The device of the store, and the one that sends.
 fn keep_and_send<R: Threads + Wait + Sync>(
     rt: &R,
-    requests: u32,
+    load: Load,
     store: &Port<Doubles>,
     store_device: &mut Device<Doubler>,
     tx: &Port<Doubles>,
@@ -187,19 +203,18 @@ fn keep_and_send<R: Threads + Wait + Sync>(
     let mut keeping = ||
         requires { store_device.now.seat.port ≡ store.now }
         ensures { IsDone store_device.entry.now store_device.exit.now }
-    { doubler::run(rt, store, store_device, requests as u64) };
+    { doubler::run(rt, store, store_device, load.idling, load.requests as u64) };
     let mut sending = ||
         requires { tx_device.now.seat.port ≡ tx.now }
         ensures { IsDone tx_device.entry.now tx_device.exit.now }
-    { doubler::run(rt, tx, tx_device, requests as u64) };
+    { doubler::run(rt, tx, tx_device, load.idling, load.requests as u64) };
     join_mut(rt, &mut keeping, &mut sending);
 }
 
 // All four threads of a link.
 fn serve_link<R: Threads + Wait + Clock + Sync>(
     rt: &R,
-    requests: u32,
-    silence: Duration,
+    load: Load,
     rx: &Port<Doubles>,
     rx_device: &mut Device<Doubler>,
     rx_pass: &mut PortPass<Doubles>,
@@ -220,13 +235,13 @@ fn serve_link<R: Threads + Wait + Clock + Sync>(
         ensures { IsFirst rx.entry.now rx_pass.exit.now × IsFirst store.entry.now store_pass.exit.now × IsFirst tx.entry.now tx_pass.exit.now × IsDone rx_device.entry.now rx_device.exit.now }
     {
         work_and_receive(
-            rt, requests, silence, rx, rx_device, rx_pass, store, store_pass, tx, tx_pass,
+            rt, load, rx, rx_device, rx_pass, store, store_pass, tx, tx_pass,
         )
     };
     let mut back = ||
         requires { IsSync R.row × (store_device.now.seat.port ≡ store.now) × (tx_device.now.seat.port ≡ tx.now) }
         ensures { IsDone store_device.entry.now store_device.exit.now × IsDone tx_device.entry.now tx_device.exit.now }
-    { keep_and_send(rt, requests, store, store_device, tx, tx_device) };
+    { keep_and_send(rt, load, store, store_device, tx, tx_device) };
     join_mut(rt, &mut front, &mut back);
 }
 
@@ -259,17 +274,11 @@ impl Link {
         tx.close();
     }
 
-    fn serve<R: Threads + Wait + Clock + Sync>(
-        &mut self,
-        rt: &R,
-        requests: u32,
-        silence: Duration,
-    ) {
+    fn serve<R: Threads + Wait + Clock + Sync>(&mut self, rt: &R, load: Load) {
         let Link { rx, store, tx } = self;
         serve_link(
             rt,
-            requests,
-            silence,
+            load,
             &rx.port,
             &mut rx.device,
             &mut rx.pass,
@@ -284,7 +293,7 @@ impl Link {
 }
 
 fn close_all(mut links: Vec<Link>) {
-    while let Some(link) = links.pop() {
+    'closing: while let Some(link) = links.pop() {
         link.close();
     }
     links.destroy_empty();
@@ -307,14 +316,13 @@ fn open_all(alloc: Global, count: u32) -> Option<Vec<Link>> {
     Some(links)
 }
 
-/// How long it took to serve so many requests on each of so many links, all at once. Each source is silent for a while first,
+/// How long it took to serve so many links, all at once. Each source is silent for a while first,
 /// in which all threads of the links sleep. `None` is want of memory.
 pub fn run<R: Threads + Clock + Wait + Sync>(
     rt: &R,
     alloc: Global,
     count: u32,
-    requests: u32,
-    silence: Duration,
+    load: Load,
 ) -> io::Result<Option<Duration>> {
     let Some(mut links) = open_all(alloc, count) else {
         return Ok(None);
@@ -327,9 +335,9 @@ pub fn run<R: Threads + Clock + Wait + Sync>(
         threads,
         &|_, link: &mut Link|
             requires { IsSync R.row }
-        { link.serve(rt, requests, silence) },
+        { link.serve(rt, load) },
     );
     let took = started.and_then(|at| at.elapsed(rt));
     close_all(links);
-    Ok(Some(took?.saturating_sub(silence)))
+    Ok(Some(took?.saturating_sub(load.silence)))
 }

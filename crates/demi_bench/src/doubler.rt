@@ -2,6 +2,7 @@
 ghost use Rattle.std.specs.Prelude.{◌≡◌, ◌+◌, ◌≤◌, ◌++◌, [], ◌∷◌, length, true};
 ghost use Rattle.demi_device.specs.Doubling.{doubled};
 
+use crate::idling::Idling;
 use demi_core::NoMemory;
 use demi_device::{Device, Done, Engine, Mark, Turn};
 use demi_port::Port;
@@ -75,7 +76,13 @@ impl Engine for Doubler {
 }
 
 /// Turns until so many operations are served, and none that was fetched is left.
-pub fn run<R: Wait>(rt: &R, port: &Port<Doubles>, device: &mut Device<Doubler>, operations: u64)
+pub fn run<R: Wait>(
+    rt: &R,
+    port: &Port<Doubles>,
+    device: &mut Device<Doubler>,
+    idling: Idling,
+    operations: u64,
+)
     requires port { device.old.seat.port ≡ port.now }
     ensures same { (device.new.seat.port ≡ device.old.seat.port) × (device.new.seat.passes ≡ device.old.seat.passes) }
     ensures all { operations + length device.old.engine.history.value ≤ length device.new.engine.history.value }
@@ -88,7 +95,7 @@ pub fn run<R: Wait>(rt: &R, port: &Port<Doubles>, device: &mut Device<Doubler>, 
         }
         match device.turn(port) {
             Turn::Served(more) => served = served.saturating_add(more as u64),
-            Turn::Idle | Turn::Ended => device.rest(rt, port),
+            Turn::Idle | Turn::Ended => idling.rest(rt, port, device),
         }
     }
     unreachable!()

@@ -4,8 +4,8 @@
 //!
 //! With no word it runs a small fixed case of each and prints counts alone. With a number of rounds it prints the rates of the
 //! first three, as in `demi_bench 2000000`. `demi_bench wait CALLERS OPERATIONS PAUSE` says how long an operation took after a
-//! pause of so many milliseconds, and `demi_bench chain LINKS REQUESTS SILENCE` how many requests a second the links served,
-//! after so many milliseconds in which all their threads slept. A rate is one of this run and this machine: compare those of
+//! pause of so many milliseconds, and `demi_bench chain LINKS REQUESTS SILENCE` how many requests the links served, after so
+//! many milliseconds in which all their threads slept, beside the same where threads only yield. A rate is one of this run and this machine: compare those of
 //! one line.
 #![tactic(auto)]
 
@@ -14,6 +14,7 @@ mod channel_loop;
 mod channels;
 mod doubler;
 mod heap_loop;
+mod idling;
 mod list_loop;
 mod memq_loop;
 mod ping_loop;
@@ -23,7 +24,9 @@ ghost use Rattle.std.specs.Prelude.{◌*◌, ◌≤◌};
 ghost use Rattle.demi_bench.specs.declared.doubler.TheConstants.{TOKENS};
 ghost use Rattle.demi_bench.specs.declared.port_loop.TheConstants.{IN_FLIGHT};
 
+use crate::chain_loop::Load;
 use crate::doubler::TOKENS;
+use crate::idling::Idling;
 use std::alloc::Global;
 use std::fmt::{Display, Formatter, Write};
 use std::sync::Wait;
@@ -278,14 +281,33 @@ fn measure_chains<R: Threads + Clock + Wait + Print + Sync>(
     asked: Case,
     with_rates: bool,
 ) -> io::Result<bool> {
-    let silence = Duration::from_millis(asked.millis as u64);
-    let Some(took) = chain_loop::run(rt, alloc, asked.count, asked.rounds, silence)? else {
+    let load = Load {
+        requests: asked.rounds,
+        silence: Duration::from_millis(asked.millis as u64),
+        idling: Idling::Sleeps,
+    };
+    let Some(slept) = chain_loop::run(rt, alloc, asked.count, load)? else {
         return Ok(false);
     };
-    println!(rt; "links {}, requests {}: served", asked.count, asked.rounds)?;
+    let yields = Load {
+        silence: Duration::from_millis(0),
+        idling: Idling::Yields,
+        ..load
+    };
+    let Some(yielded) = chain_loop::run(rt, alloc, asked.count, yields)? else {
+        return Ok(false);
+    };
+    println!(rt;
+        "links {}, requests {}: served twice",
+        asked.count, asked.rounds
+    )?;
     if with_rates {
-        let served = rate(asked.rounds, asked.count, took);
-        println!(rt; "  requests a millisecond: {served}")?;
+        let sleeping = rate(asked.rounds, asked.count, slept);
+        let yielding = rate(asked.rounds, asked.count, yielded);
+        let ratio = Ratio::of(sleeping, yielding);
+        println!(rt;
+            "  requests a millisecond: where threads sleep {sleeping}, where they yield alone {yielding} (ratio {ratio})"
+        )?;
     }
     Ok(true)
 }

@@ -8,6 +8,7 @@ ghost use Rattle.demi_memq.specs.Said.{IsFrom, IsProper, is_stop, op_said};
 ghost use Rattle.demi_bench.specs.declared.memq_loop.TheConstants.{TOKENS};
 ghost use Rattle.demi_bench.specs.Queueing.{GoesOn, StaysEven};
 
+use crate::heap_loop::next;
 use demi_buf::Class;
 use demi_device::Device;
 use demi_heap::{Counts, Heap, HeapPass};
@@ -387,8 +388,8 @@ pub fn run<R: Clock + Wait>(
     let Ok((heap, mut passes)) = Heap::make(alloc, counts, 2) else {
         return Ok(None);
     };
-    let mine = passes.take_last();
-    let mut app = passes.take_last();
+    let mine = next(&heap, &mut passes);
+    let mut app = next(&heap, &mut passes);
     let (mine, measured) = measure_port(rt, alloc, &heap, mine, &mut app, waiting, rounds);
     passes.push_reserved(mine);
     passes.push_reserved(app);

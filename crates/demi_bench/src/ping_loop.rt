@@ -8,6 +8,7 @@ ghost use Rattle.demi_bench.specs.declared.doubler.TheConstants.{TOKENS};
 
 use crate::doubler;
 use crate::doubler::{Doubler, TOKENS};
+use crate::idling::Idling;
 use crate::port_loop::{close_unused, redeem, submit};
 use demi_device::Device;
 use demi_port::{Port, PortPass};
@@ -57,7 +58,7 @@ fn call<R: Wait + Clock>(
         sleep(rt, pause);
         let started = Instant::now(rt).ok();
         let token = submit(rt, port, pass, op);
-        let out = redeem(rt, port, pass, token);
+        let out = redeem(rt, port, pass, Idling::Sleeps, token);
         note_time(times, micros_since(rt, started));
         right += u32::from(out == op as u64 * 2);
     }
@@ -119,7 +120,7 @@ fn run_both<R: Threads + Wait + Clock + Sync>(
     let mut serves = ||
         requires { device.now.seat.port ≡ port.now }
         ensures { IsDone device.entry.now device.exit.now }
-    { doubler::run(rt, port, device, all) };
+    { doubler::run(rt, port, device, Idling::Sleeps, all) };
     join_mut(rt, &mut callers, &mut serves);
     right.load(Ordering::SeqCst)
 }

@@ -9,6 +9,7 @@ ghost use Rattle.demi_bench.specs.Serving.{IsDone};
 
 use crate::doubler;
 use crate::doubler::{Doubler, TOKENS};
+use crate::idling::Idling;
 use demi_device::Device;
 use demi_port::{DeviceSeat, Port, PortPass, Redeem};
 use demi_port_core::{Doubles, Token};
@@ -49,6 +50,7 @@ pub(crate) fn redeem<R: Wait>(
     rt: &R,
     port: &Port<Doubles>,
     pass: &mut PortPass<Doubles>,
+    idling: Idling,
     token: Token,
 ) -> u64
     requires { pass.old.port ≡ port.now }
@@ -59,7 +61,7 @@ pub(crate) fn redeem<R: Wait>(
     for _ in rt.forever() {
         match port.try_wait(pass, token) {
             Redeem::Ready(_, out) => return out,
-            Redeem::NotYet | Redeem::Spent | Redeem::Unknown => port.park(rt, pass),
+            Redeem::NotYet | Redeem::Spent | Redeem::Unknown => idling.park(rt, port, pass),
         }
     }
     unreachable!()
@@ -77,13 +79,19 @@ fn call<R: Wait>(rt: &R, port: &Port<Doubles>, pass: &mut PortPass<Doubles>, ope
     for op in 0..operations {
         let at = (op % IN_FLIGHT) as usize;
         if op >= IN_FLIGHT {
-            let out = redeem(rt, port, pass, tokens[at]);
+            let out = redeem(rt, port, pass, Idling::Sleeps, tokens[at]);
             right += u32::from(out == (op - IN_FLIGHT) as u64 * 2);
         }
         tokens[at] = submit(rt, port, pass, op);
     }
     for op in operations.saturating_sub(IN_FLIGHT)..operations {
-        let out = redeem(rt, port, pass, tokens[(op % IN_FLIGHT) as usize]);
+        let out = redeem(
+            rt,
+            port,
+            pass,
+            Idling::Sleeps,
+            tokens[(op % IN_FLIGHT) as usize],
+        );
         right += u32::from(out == op as u64 * 2);
     }
     right
@@ -140,7 +148,7 @@ fn run_both<R: Threads + Wait + Sync>(
     let mut serves = ||
         requires { device.now.seat.port ≡ port.now }
         ensures { IsDone device.entry.now device.exit.now }
-    { doubler::run(rt, port, device, all) };
+    { doubler::run(rt, port, device, Idling::Sleeps, all) };
     join_mut(rt, &mut callers, &mut serves);
     right.load(Ordering::SeqCst)
 }
