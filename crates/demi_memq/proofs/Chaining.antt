@@ -3,7 +3,7 @@ use Rattle.std.proofs.Common.{◌≡◌, ◌≢◌, ℕ, zero, suc, ◌+◌, ◌
 use Rattle.std.specs.Prelude.{◌==◌}
 use Rattle.std.proofs.lemmas.List.{map-append}
 use Rattle.demi_port_core.specs.History.{Each}
-use Rattle.demi_memq.specs.Chains.{ChainsValue, AllFree, AllEmpty, Holds}
+use Rattle.demi_memq.specs.Chains.{ChainsValue, AllFree, AllEmpty, ChainsHold}
 use Rattle.demi_memq.specs.Counting.{beside}
 use Rattle.demi_memq.specs.Rooms.{rest}
 use Rattle.demi_memq.proofs.Lists.{by_test, by_number, beside_same, beside_other, rest_same, rest_other, rest_length}
@@ -47,10 +47,11 @@ module _ {X : Type 0} where
   length_some [] = refl
   length_some (x ∷ xs) = ap suc (length_some xs)
 
-  pub few_held : (q : ℕ) (items : List (ℕ × X)) (chains : List (List (Option X))) → Holds items chains → length (get_or chains q []) ≤ length items
+  pub few_held : (q : ℕ) (items : List (ℕ × X)) (chains : List (List (Option X))) → ChainsHold items chains → length (get_or chains q []) ≤ length items
   few_held q items chains h = let a = ap length (h q) in let b = length_some (beside q items) in let c = few_beside q items in omega arith
 
-  pub holds_push : (q : ℕ) (x : X) (items : List (ℕ × X)) (chains : List (List (Option X))) (chain : List (Option X)) → Holds items chains → q < length chains → chain ≡ get_or chains q [] ++ Some x ∷ [] → Holds (items ++ (q, x) ∷ []) (set chains q chain)
+  pub holds_push : (q : ℕ) (x : X) (items : List (ℕ × X)) (chains : List (List (Option X))) (chain : List (Option X))
+      → ChainsHold items chains → q < length chains → chain ≡ get_or chains q [] ++ Some x ∷ [] → ChainsHold (items ++ (q, x) ∷ []) (set chains q chain)
   holds_push q x items chains chain h lt is = λ j.
       by_number (λ j. get_or (set chains q chain) j [] ≡ map Some (beside j (items ++ (q, x) ∷ []))) q j
       (get_or-set_same chains q chain [] lt ∙ is ∙ ap (λ l. l ++ Some x ∷ []) (h q) ∙ sym (map-append Some (beside q items) (x ∷ [])) ∙ ap (map Some) (sym (beside_same q x items)))
@@ -60,9 +61,14 @@ module _ {X : Type 0} where
   first_held [] o r e = absurd (cc)
   first_held (x ∷ s) o r e = (x, s, refl, cc, cc)
 
+  -- o has the first item of the queue q, and without it the items are held where r is what is left of the queue's chain
+  abbrev pub Popped : ℕ → Option X → List (Option X) → List (ℕ × X) → List (List (Option X)) → Type 0
+  Popped q o r items chains =
+      (x : X) × (o ≡ Some x) × (beside q items ≡ x ∷ beside q (rest q items)) × (length (rest q items) + 1 ≡ length items) × ChainsHold (rest q items) (set chains q r)
+
   -- the first node of a queue has the first item of it, and the others have the rest
-  pub holds_pop : (q : ℕ) (o : Option X) (r : List (Option X)) (items : List (ℕ × X)) (chains : List (List (Option X))) → Holds items chains → q < length chains → get_or chains q [] ≡ o ∷ r
-      → (x : X) × (o ≡ Some x) × (beside q items ≡ x ∷ beside q (rest q items)) × (length (rest q items) + 1 ≡ length items) × Holds (rest q items) (set chains q r)
+  pub holds_pop : (q : ℕ) (o : Option X) (r : List (Option X)) (items : List (ℕ × X)) (chains : List (List (Option X)))
+      → ChainsHold items chains → q < length chains → get_or chains q [] ≡ o ∷ r → Popped q o r items chains
   holds_pop q o r items chains h lt is =
       let f = first_held (beside q items) o r (sym is ∙ h q) in let same = rest_same q f.0 f.1 items f.2 in (
         f.0,
@@ -75,7 +81,7 @@ module _ {X : Type 0} where
             (λ ne. get_or-set_other chains q j r [] (λ e. ne (sym e)) ∙ h j ∙ ap (map Some) (sym (rest_other q j items ne))),
       )
 
-  pub none_first : (q : ℕ) (items : List (ℕ × X)) (chains : List (List (Option X))) → Holds items chains → get_or chains q [] ≡ [] → beside q items ≡ []
+  pub none_first : (q : ℕ) (items : List (ℕ × X)) (chains : List (List (Option X))) → ChainsHold items chains → get_or chains q [] ≡ [] → beside q items ≡ []
   none_first q items chains h is = none_if (beside q items) (sym (h q) ∙ is)
     where
       none_if : (b : List X) → map {B = Option X} Some b ≡ [] → b ≡ []
@@ -88,12 +94,12 @@ module _ {X : Type 0} where
 
 module _ {X : Type 0} where
   -- an empty order is held by empty chains
-  pub holds_none : (chains : List (List (Option X))) → AllEmpty chains → Holds [] chains
+  pub holds_none : (chains : List (List (Option X))) → AllEmpty chains → ChainsHold [] chains
   holds_none chains e = λ q. empty_at chains q e
 
-  pub none_held : (items : List (ℕ × X)) (chains : List (List (Option X))) → Holds items chains → items ≡ [] → AllEmpty chains
+  pub none_held : (items : List (ℕ × X)) (chains : List (List (Option X))) → ChainsHold items chains → items ≡ [] → AllEmpty chains
   none_held items chains h e = all_empty chains (λ q. h q ∙ ap (λ l. map Some (beside q l)) e)
 
   -- nothing waits beside a number that is no queue's
-  pub none_beyond : (q : ℕ) (items : List (ℕ × X)) (chains : List (List (Option X))) → Holds items chains → length chains ≤ q → beside q items ≡ []
+  pub none_beyond : (q : ℕ) (items : List (ℕ × X)) (chains : List (List (Option X))) → ChainsHold items chains → length chains ≤ q → beside q items ≡ []
   none_beyond q items chains h le = none_first q items chains h (get_beyond chains [] q le)

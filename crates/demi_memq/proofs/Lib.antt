@@ -1,10 +1,11 @@
-pub mod Examples
-pub mod Lists
-pub mod Chaining
-pub mod Moves
 pub mod Agreeing
-pub mod Keeping
+pub mod Chaining
 pub mod EachKind
 pub mod Ending
-pub mod Saying
+pub mod Examples
 pub mod Going
+pub mod Keeping
+pub mod Lists
+pub mod Moves
+pub mod Passes
+pub mod Saying

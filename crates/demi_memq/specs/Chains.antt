@@ -18,5 +18,5 @@ abbrev pub AllEmpty : {X : Type 0} → List (List X) → Type 0
 AllEmpty lists = Each (λ l. l ≡ []) lists
 
 -- the nodes of each queue have its items in their order
-abbrev pub Holds : {X : Type 0} → List (ℕ × X) → List (List (Option X)) → Type 0
-Holds items chains = (q : ℕ) → slice_index_or chains q [] ≡ map Some (beside q items)
+abbrev pub ChainsHold : {X : Type 0} → List (ℕ × X) → List (List (Option X)) → Type 0
+ChainsHold items chains = (q : ℕ) → slice_index_or chains q [] ≡ map Some (beside q items)

@@ -26,13 +26,13 @@ pub(crate) struct Chains<T> {
 
 impl<T> Model for Chains<T> {
     ghost use Rattle.std.specs.Prelude.{◌+◌, ◌<◌, ◌^◌, length};
-    ghost use Rattle.demi_memq.specs.Chains.{ChainsValue, AllFree, Holds};
+    ghost use Rattle.demi_memq.specs.Chains.{ChainsValue, AllFree, ChainsHold};
 
     ghost Value = { ChainsValue T };
 
     ghost view = { λ c. record { items = c.order.value; queues = length c.chains.items; room = length c.order.value + length c.free } };
 
-    ghost invariant = { λ c. Holds c.order.value c.chains.items × AllFree c.free × (length c.order.value + length c.free < 2 ^ 32) × (length c.chains.items < 2 ^ 32) };
+    ghost invariant = { λ c. ChainsHold c.order.value c.chains.items × AllFree c.free × (length c.order.value + length c.free < 2 ^ 32) × (length c.chains.items < 2 ^ 32) };
 }
 
 fn none_came<T>() -> Order<T>

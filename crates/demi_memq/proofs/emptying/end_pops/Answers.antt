@@ -22,9 +22,11 @@ loop-first-preserved c =
       mid = subst (λ l. Mid 1024 h (h ++ by ∷ []) f l n') (sym more) (subst (λ l. Mid 1024 h (h ++ by ∷ []) f (old ++ (p, so) ∷ []) l) (sym c.in-Some.ensures.rest) d);
       owed = λ k j e. i.owed (suc k) j (later_at q p k j n n' c.in-Some.ensures.first e);
       others = λ j ne. ap (beside j) c.in-Some.ensures.rest ∙ rest_other q j n ne ∙ i.others j ne;
-      none = ap given more ∙ given_more old p so ∙ (let s : given old + out_segments so ≡ given old = let z = ends_give c.args.stop in omega arith in s) ∙ i.none;
+      none = ap given more ∙ given_more old p so
+          ∙ (let s : given old + out_segments so ≡ given old = let z = ends_give c.args.stop in omega arith in s) ∙ i.none;
       from = λ k given_of. subst (GivenOf k) (sym more) (given_of_more k old p so (i.from k given_of) (ends_from k c.args.stop));
       room = c.add.ensures.room ∙ i.room;
-      holds = let e = ap length c.add.ensures.added in let l = length-append old ((p, c.ending.result) ∷ []) in let less = c.in-Some.ensures.less in let holds = i.holds in let room = c.add.ensures.room in omega arith;
+      holds = let e = ap length c.add.ensures.added in let l = length-append old ((p, c.ending.result) ∷ []) in let less = c.in-Some.ensures.less in let holds = i.holds in let room = c.add.ensures.room in
+          omega arith;
       rooms = (c.pop.ensures.room.1 ∙ i.rooms.0, c.pop.ensures.room.0 ∙ i.rooms.1);
     }

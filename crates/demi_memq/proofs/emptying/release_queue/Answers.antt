@@ -20,7 +20,8 @@ loop-sga-preserved c =
       heap = ap (λ (v : PassValue). v.heap) c.release.ensures ∙ i.heap;
       items = subst (ItemsOf h) (sym e.rest) (items_rest h q w i.items);
       others = λ j ne. ap (beside j) e.rest ∙ rest_other q j w ne ∙ i.others j ne;
-      pass = c.release.ensures ∙ ap (λ (v : PassValue). record v { returned = c.loop-sga.pass.returned + length c.in-Some.sga }) i.pass ∙ ap (λ k. record c.args.pass.now { returned = k }) (sym (ap (λ (v : PassValue). v.returned) c.release.ensures));
+      pass = c.release.ensures ∙ ap (λ (v : PassValue). record v { returned = c.loop-sga.pass.returned + length c.in-Some.sga }) i.pass
+          ∙ ap (λ k. record c.args.pass.now { returned = k }) (sym (ap (λ (v : PassValue). v.returned) c.release.ensures));
       sum = let r = ap (λ (v : PassValue). v.returned) c.release.ensures in let k = ap held e.rest in let l = held_rest q c.in-Some.sga _ w e.first in let s = i.sum in omega arith;
       rooms = (c.pop.ensures.room.1 ∙ i.rooms.0, c.pop.ensures.room.0 ∙ i.rooms.1);
     }

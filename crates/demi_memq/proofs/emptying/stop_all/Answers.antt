@@ -30,4 +30,5 @@ returns-clause-empty c = let i = c.loop-q.invariant in none_at_all _ c.loop-q.pe
 pub returns-clause-mid : goal.returns-clause-mid
 returns-clause-mid c =
     let h = c.args.history.now.value in let i = c.loop-q.invariant in
-    subst (λ n. Mid 1024 h (h ++ Stop ∷ []) c.args.outcomes.now.value c.loop-q.done.added n) (none_at_all _ c.loop-q.pending.items (λ j lt. i.below j (let t = c.loop-q-test.false in omega arith)) i.above) i.mid
+    subst (λ n. Mid 1024 h (h ++ Stop ∷ []) c.args.outcomes.now.value c.loop-q.done.added n)
+    (none_at_all _ c.loop-q.pending.items (λ j lt. i.below j (let t = c.loop-q-test.false in omega arith)) i.above) i.mid

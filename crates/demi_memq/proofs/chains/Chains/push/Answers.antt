@@ -1,5 +1,5 @@
 use Rattle.std.proofs.Common.{◌≡◌, ◌<◌, ◌++◌, [], ◌∷◌, length, length-append, length-set, set, get_or, ap, sym, ◌∙◌, subst, arith}
-use Rattle.demi_memq.specs.Chains.{Holds}
+use Rattle.demi_memq.specs.Chains.{ChainsHold}
 use Rattle.demi_memq.proofs.Lists.{got_any}
 use Rattle.demi_memq.proofs.Chaining.{few_held, holds_push, free_cut}
 use Rattle.demi_memq.proofs.chains.Chains.push.Goals as goal
@@ -17,8 +17,9 @@ invariant_of-self g c =
     let free = free_cut c.exchange.result c.in-Some.node s.free c.cut_first.new.nodes c.in-Some.ensures.first c.exchange.ensures.old c.self.invariant.1 in
     let total = c.self.invariant.2 in let width = c.self.invariant.3 in let wide = length-set s.chains.items q c.put_last.new.nodes in let more = ap length c.came-order.ensures in let one = length-append s.order.value ((q, c.args.item) ∷ []) in
     let cut = ap length c.in-Some.ensures.first in let parts = length-append c.in-Some.node c.cut_first.new.nodes in let node = c.in-Some.ensures.one in (
-      subst (λ l. Holds l (set s.chains.items q c.put_last.new.nodes)) (sym c.came-order.ensures)
-          (holds_push q c.args.item s.order.value s.chains.items c.put_last.new.nodes c.self.invariant.0 lt (c.put_last.ensures ∙ ap (λ l. l ++ c.exchange.new.node) e ∙ ap (λ n. get_or s.chains.items q [] ++ n) c.exchange.ensures.new)),
+      subst (λ l. ChainsHold l (set s.chains.items q c.put_last.new.nodes)) (sym c.came-order.ensures)
+          (holds_push q c.args.item s.order.value s.chains.items c.put_last.new.nodes c.self.invariant.0 lt
+          (c.put_last.ensures ∙ ap (λ l. l ++ c.exchange.new.node) e ∙ ap (λ n. get_or s.chains.items q [] ++ n) c.exchange.ensures.new)),
       free.1,
       omega arith,
       omega arith,
