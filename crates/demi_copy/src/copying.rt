@@ -1,5 +1,6 @@
 //! A copy from a source to a sink.
-ghost use Rattle.std.specs.Prelude.{◌≡◌};
+ghost use Rattle.std.specs.Prelude.{◌≡◌, ◌+◌, ◌<◌, All, vec_capacity, vec_len};
+ghost use Rattle.demi_heap.specs.Seen.{new_pass};
 
 use crate::carrier::Carrier;
 use crate::closing::close;
@@ -114,6 +115,17 @@ fn over_heap<R: Threads + Wait + Sync, S: Source + Send, T: Sink + Send>(
     )
 }
 
+// The next pass of a new heap.
+fn next(heap: &Heap, passes: &mut Vec<HeapPass>) -> HeapPass
+    requires { (0 < vec_len passes.old) × All (λ p. p ≡ new_pass heap.now) passes.old.items }
+    ensures pass { result.heap ≡ heap.now }
+    ensures rest { All (λ p. p ≡ new_pass heap.now) passes.new.items }
+    ensures room { (vec_len passes.new + 1 ≡ vec_len passes.old) × (vec_capacity passes.new ≡ vec_capacity passes.old) }
+{
+    let _heap = heap;
+    passes.take_last()
+}
+
 /// Copies what the source gives to the sink, until the source ends or one of them fails. It may wait.
 ///
 /// Not said: that what was written is what was read.
@@ -132,9 +144,9 @@ pub fn copy<R: Threads + Wait + Sync, S: Source + Send, T: Sink + Send>(
         };
     };
     let dealt = Passes {
-        reads: passes.take_last(),
-        writes: passes.take_last(),
-        app: passes.take_last(),
+        reads: next(&heap, &mut passes),
+        writes: next(&heap, &mut passes),
+        app: next(&heap, &mut passes),
     };
     let (dealt, copied) = over_heap(rt, alloc, &heap, dealt, source, sink);
     let Passes { reads, writes, app } = dealt;
