@@ -140,15 +140,17 @@ fn a_log_that_is_no_text_of_records(rt: HostRuntime) -> Result<(), Fail> {
 
 #[test]
 fn a_log_whose_calls_fail(rt: HostRuntime) -> Result<(), Fail> {
-    // Four looks open the log, and each get is one more.
-    let looks: [(u64, usize, usize, usize, u8); 7] = [
+    // Six looks open the log, and each get is one more.
+    let looks: [(u64, usize, usize, usize, u8); 9] = [
         (0, 22, 0, 34, 4),
         (1, 22, 0, 34, 4),
         (2, 22, 0, 34, 4),
         (3, 22, 0, 34, 4),
-        (4, 0, 23, 47, 4),
-        (5, 0, 46, 47, 4),
-        (6, 0, 69, 47, 0),
+        (4, 22, 0, 34, 4),
+        (5, 22, 0, 34, 4),
+        (6, 0, 23, 47, 4),
+        (7, 0, 46, 47, 4),
+        (8, 0, 69, 47, 0),
     ];
     for (look, rest, written, logged, status) in looks {
         let faulty = Setup {
