@@ -35,7 +35,7 @@ PutIs old new disk_old disk_new index key value store.Fault = (k : ℕ) × (disk
 PutIs old new disk_old disk_new index key value store.NoMemory = (new ≡ old) × (disk_new ≡ disk_old)
 PutIs old new disk_old disk_new index key value other = ⊥
 
--- The reply to one on these records, of which no value is found, spelled.
+-- the reply that is due to the one with this index on these records, spelled
 abbrev pub reply_on : List Record → ℕ → Asked → List ℕ
 reply_on records index ask = reply.spelling_of 0 (index + 1) (answer records limit ask)
 
