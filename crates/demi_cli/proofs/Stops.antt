@@ -90,14 +90,17 @@ stands_ask fault.Write told old asks more ask link kept log kept_log w c text sa
     stands_write told old asks more ask link kept log kept_log w c text said says logs broke (rose_w refl)
 stands_ask fault.Log told old asks more ask link kept log kept_log w c text said says logs broke rose_w rose_l = (
   rose_l refl,
-  (broke.1.0, record {
-    ask = ask;
-    more = more;
-    next_is = refl;
-    is = broke.2;
-    says = (text, said, broke.0 ∙ says);
-    logs = logged_on (contents_of log) c (contents_of kept_log) (logged_for old asks) (take broke.1.0 (next_entry old asks ask)) logs broke.1.1;
-  }),
+  (
+    broke.1.0,
+    record {
+      ask = ask;
+      more = more;
+      next_is = refl;
+      is = broke.2;
+      says = (text, said, broke.0 ∙ says);
+      logs = logged_on (contents_of log) c (contents_of kept_log) (logged_for old asks) (take broke.1.0 (next_entry old asks ask)) logs broke.1.1;
+    },
+  ),
 )
 stands_ask fault.NoMemory told old asks more ask link kept log kept_log w c text said says logs broke rose_w rose_l = record {
   ask = ask;

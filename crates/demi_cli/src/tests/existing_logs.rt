@@ -5,7 +5,8 @@ use std::test::Fail;
 
 const GET_A: &[u8] = b"\x02\x01\x00\x00\x00\x00a";
 
-const PUT_THEN_GET: &[u8] = b"\x01\x01\x00\x00\x00\x01b9\x02\x01\x00\x00\x00\x00a\x02\x01\x00\x00\x00\x00b";
+const PUT_THEN_GET: &[u8] =
+    b"\x01\x01\x00\x00\x00\x01b9\x02\x01\x00\x00\x00\x00a\x02\x01\x00\x00\x00\x00b";
 
 // What it is answered over a log of two records that has the value 2 for a.
 const ITS_REPLIES: &[u8] =
@@ -48,7 +49,13 @@ fn a_log_is_used_again(rt: HostRuntime) -> Result<(), Fail> {
             b"\x83\x00\x00\x00\x00\x00\x00\x00\x00\x01\x00\x00\x00\x00\x00\x00\x00\x00\x00\x00\x00\x00",
             b"DEMILOG1",
         ),
-        ("a put on top", THEIR_LOG, PUT_THEN_GET, ITS_REPLIES, ITS_LOG),
+        (
+            "a put on top",
+            THEIR_LOG,
+            PUT_THEN_GET,
+            ITS_REPLIES,
+            ITS_LOG,
+        ),
     ];
     for (name, old_log, input, output, log) in rows {
         let left = run_over(rt.alloc(), old_log, input)?;
