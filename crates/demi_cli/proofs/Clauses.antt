@@ -3,20 +3,19 @@ use Rattle.std.proofs.Common.{◌≡◌, ◌≢◌, ℕ, List, Option, Some, Non
 use Rattle.std.specs.Prelude.{if◌then◌else◌, ◌==◌}
 use Rattle.std.proofs.lemmas.Slice.Eq.{bytes_eq-Decides}
 use Rattle.demi_core.specs.World.{WorldState, Link, Log, after_log, LogRefused}
-use Rattle.demi_cli.specs.Serving.{contents_of}
 use Rattle.demi_cli.specs.declared.serving.Fault.{Fault}
 use Rattle.demi_cli.specs.declared.serving.Fault.TheVariants as fault
 use Rattle.demi_cli.specs.declared.outcome.Outcome.{Outcome}
 use Rattle.demi_cli.specs.declared.outcome.Outcome.TheVariants as outcome
 use Rattle.demi_cli.specs.Outcome.{status_of, reported}
 use Rattle.demi_cli.specs.Ended.{AtOutcome, Ran}
-use Rattle.demi_cli.specs.Run.{Gave, A_log, Nothing, KeepsAll, with_link, headed, LogOf, LinkOf, NoLink, SameButWarned, Keeps, CannotOpen, BeforeLink, BadLog, EmptyLog, LogFaulted, ReadFaulted, WriteFaulted, outcome_at_end, FinishedRun, status_of_fault, Unlinked, StoppedRun, Warned}
+use Rattle.demi_cli.specs.Run.{Gave, A_log, Nothing, KeepsAll, with_link, HeadedInPart, LogOf, LinkOf, NoLink, SameButWarned, Keeps, CannotOpen, BeforeLink, BadLog, GoodLog, LogFaulted, ReadFaulted, WriteFaulted, outcome_at_end, FinishedRun, status_of_fault, Unlinked, StoppedRun, Warned}
 
 -- the outcome of a status
 abbrev outcome_at : ℕ → ℕ → Outcome
 outcome_at n code =
     if n == 0 then outcome.Served else if n == 1 then outcome.Usage else if n == 2 then outcome.ReadFault else if n == 3 then outcome.WriteFault
-    else if n == 4 then outcome.LogFault else if n == 5 then outcome.NoMemory else if n == 6 then outcome.Refused code else if n == 7 then outcome.BadLog else outcome.CannotOpen
+    else if n == 4 then outcome.LogFault else if n == 5 then outcome.NoMemory else if n == 6 then outcome.Refused code else if n == 7 then outcome.BadLog code else outcome.CannotOpen
 
 back : (o : Outcome) → (code : ℕ) × (o ≡ outcome_at (status_of o) code)
 back outcome.Served = (0, refl)
@@ -26,7 +25,7 @@ back outcome.WriteFault = (0, refl)
 back outcome.LogFault = (0, refl)
 back outcome.NoMemory = (0, refl)
 back (outcome.Refused code) = (code, refl)
-back outcome.BadLog = (0, refl)
+back (outcome.BadLog at) = (at, refl)
 back outcome.CannotOpen = (0, refl)
 
 is_at : (n m : ℕ) (o : Outcome) → n ≡ status_of o → n ≡ m → (code : ℕ) × (o ≡ outcome_at m code)
@@ -41,7 +40,7 @@ only_warned outcome.WriteFault mid = refl
 only_warned outcome.LogFault mid = refl
 only_warned outcome.NoMemory mid = refl
 only_warned (outcome.Refused code) mid = refl
-only_warned outcome.BadLog mid = refl
+only_warned (outcome.BadLog at) mid = refl
 only_warned outcome.CannotOpen mid = refl
 
 pub same_but : (o : Outcome) (mid new : WorldState) → new ≡ reported o mid → SameButWarned mid new
@@ -55,11 +54,11 @@ warned_of outcome.WriteFault old mid e = refl
 warned_of outcome.LogFault old mid e = refl
 warned_of outcome.NoMemory old mid e = refl
 warned_of (outcome.Refused code) old mid e = refl
-warned_of outcome.BadLog old mid e = refl
+warned_of (outcome.BadLog at) old mid e = refl
 warned_of outcome.CannotOpen old mid e = refl
 
 -- neither warned nor said by what was given
-plain_link : (link : Option (Link × Link)) (w : WorldState) → ((with_link link w).warned ≡ w.warned) × ((with_link link w).said ≡ w.said) × ((with_link link w).given_logs ≡ w.given_logs)
+pub plain_link : (link : Option (Link × Link)) (w : WorldState) → ((with_link link w).warned ≡ w.warned) × ((with_link link w).said ≡ w.said) × ((with_link link w).given_logs ≡ w.given_logs)
 plain_link None w = (refl, refl, refl)
 plain_link (Some p) w = (refl, refl, refl)
 
@@ -93,6 +92,9 @@ log_of old mid new name log kept link keeps same = record {
       ∙ ap (λ b. if b then Some kept else (with_link link (after_log old name log)).kept_log name) ((bytes_eq-Decides name name).1 refl);
 }
 
+abbrev pub kept_log_of : (old new : WorldState) (name : List ℕ) (log kept : Log) (link : Option (Link × Link)) → KeepsAll (A_log log kept link) name old new → LogOf old new name
+kept_log_of old new name log kept link keeps = log_of old new new name log kept link keeps refl
+
 abbrev link_of : (old mid new : WorldState) (name : List ℕ) (log kept : Log) (p : Link × Link) → KeepsAll (A_log log kept (Some p)) name old mid → SameButWarned mid new → LinkOf old new
 link_of old mid new name log kept p keeps same = record {
   link = p.0;
@@ -108,32 +110,36 @@ nothing : (old mid new : WorldState) (name : List ℕ) → LogRefused old mid na
 nothing old mid new name keeps same =
     (ap (λ (w : WorldState). w.given_links) same ∙ ap (λ (w : WorldState). w.given_links) keeps.0, ap (λ (w : WorldState). w.given_logs) same ∙ ap (λ (w : WorldState). w.given_logs) keeps.0)
 
--- nothing was given, or a log alone that has its header
+-- nothing was given, or a log alone that was not opened
 none_given : (old mid new : WorldState) (name : List ℕ) → LogRefused old mid name → SameButWarned mid new → BeforeLink old new name
 none_given old mid new name keeps same = let n = nothing old mid new name keeps same in (n.0, inl n.1)
 
-log_alone : (old mid new : WorldState) (name : List ℕ) (log kept : Log) → KeepsAll (A_log log kept None) name old mid → SameButWarned mid new → log.held ≡ 0 → contents_of kept ≡ contents_of (headed log) → BeforeLink old new name
-log_alone old mid new name log kept keeps same zero is = (no_link old mid new name log kept keeps same, inr (log_of old mid new name log kept None keeps same, zero, is))
+log_alone : (old mid new : WorldState) (name : List ℕ) (log kept : Log) → KeepsAll (A_log log kept None) name old mid → SameButWarned mid new → HeadedInPart log kept → BeforeLink old new name
+log_alone old mid new name log kept keeps same is = (no_link old mid new name log kept keeps same, inr (log_of old mid new name log kept None keeps same, is))
 
 cannot_open_at : (old mid new : WorldState) (f0 f1 : ℕ) (name : List ℕ) (gave : Gave) → KeepsAll gave name old mid → SameButWarned mid new → AtOutcome outcome.CannotOpen gave f0 f1 → CannotOpen old new name f0 f1
-cannot_open_at old mid new f0 f1 name Nothing keeps same ends = (ends, none_given old mid new name keeps same)
-cannot_open_at old mid new f0 f1 name (A_log log kept None) keeps same ends = (ends.1.0, log_alone old mid new name log kept keeps same ends.0 ends.1.1)
-cannot_open_at old mid new f0 f1 name (A_log log kept (Some p)) keeps same ends = absurd ends.1
+cannot_open_at old mid new f0 f1 name Nothing keeps same ends = let n = nothing old mid new name keeps same in (ends, n.0, inl n.1)
+cannot_open_at old mid new f0 f1 name (A_log log kept None) keeps same ends =
+    (ends.at.0, no_link old mid new name log kept keeps same, inr (log_of old mid new name log kept None keeps same, (ends.records, ends.had, ends.at.1)))
+cannot_open_at old mid new f0 f1 name (A_log log kept (Some p)) keeps same ends = absurd ends.at
 
 pub cannot_open : (old mid new : WorldState) (f0 f1 : ℕ) (name : List ℕ) (o : Outcome) (n : ℕ) → Ran old mid f0 f1 name o → n ≡ status_of o → new ≡ reported o mid → n ≡ 8 → CannotOpen old new name f0 f1
 cannot_open old mid new f0 f1 name o n r status is e =
     let at : o ≡ outcome.CannotOpen = (is_at n 8 o status e).1 in
     cannot_open_at old mid new f0 f1 name r.gave r.keeps (same_but o mid new is) (subst (λ (x : Outcome). AtOutcome x r.gave f0 f1) at r.ends)
 
-bad_log_at : (old mid new : WorldState) (f0 f1 : ℕ) (name : List ℕ) (gave : Gave) → KeepsAll gave name old mid → SameButWarned mid new → AtOutcome outcome.BadLog gave f0 f1 → BadLog old new name
-bad_log_at old mid new f0 f1 name Nothing keeps same ends = absurd ends
-bad_log_at old mid new f0 f1 name (A_log log kept None) keeps same ends = (no_link old mid new name log kept keeps same, (log_of old mid new name log kept None keeps same, ends.0, ends.1))
-bad_log_at old mid new f0 f1 name (A_log log kept (Some p)) keeps same ends = absurd ends.1
+bad_log_at : (old mid new : WorldState) (f0 f1 : ℕ) (name : List ℕ) (at : ℕ) (gave : Gave) → KeepsAll gave name old mid → SameButWarned mid new → new.warned ≡ (reported (outcome.BadLog at) old).warned
+    → AtOutcome (outcome.BadLog at) gave f0 f1 → BadLog old new name
+bad_log_at old mid new f0 f1 name at Nothing keeps same text ends = absurd ends
+bad_log_at old mid new f0 f1 name at (A_log log kept None) keeps same text ends =
+    (no_link old mid new name log kept keeps same, (log_of old mid new name log kept None keeps same, (at, ends, text)))
+bad_log_at old mid new f0 f1 name at (A_log log kept (Some p)) keeps same text ends = absurd ends.at
 
 pub bad_log : (old mid new : WorldState) (f0 f1 : ℕ) (name : List ℕ) (o : Outcome) (n : ℕ) → Ran old mid f0 f1 name o → n ≡ status_of o → new ≡ reported o mid → n ≡ 7 → BadLog old new name
 bad_log old mid new f0 f1 name o n r status is e =
-    let at : o ≡ outcome.BadLog = (is_at n 7 o status e).1 in
-    bad_log_at old mid new f0 f1 name r.gave r.keeps (same_but o mid new is) (subst (λ (x : Outcome). AtOutcome x r.gave f0 f1) at r.ends)
+    let b = is_at n 7 o status e in
+    bad_log_at old mid new f0 f1 name b.0 r.gave r.keeps (same_but o mid new is) (warning old mid new f0 f1 name o r is ∙ ap (λ (x : Outcome). (reported x old).warned) b.1)
+    (subst (λ (x : Outcome). AtOutcome x r.gave f0 f1) b.1 r.ends)
 
 log_fault_at : (old mid new : WorldState) (f0 f1 : ℕ) (name : List ℕ) (gave : Gave) → KeepsAll gave name old mid → SameButWarned mid new → AtOutcome outcome.LogFault gave f0 f1
     → LogFaulted old new name × (Unlinked fault.Log old new name ⊎ StoppedRun fault.Log old new name)
@@ -143,7 +149,7 @@ log_fault_at old mid new f0 f1 name (A_log log kept None) keeps same ends =
     ((d, ends.0), inl (no_link old mid new name log kept keeps same, (d, ends.1)))
 log_fault_at old mid new f0 f1 name (A_log log kept (Some p)) keeps same ends =
     let d : LogOf old new name = log_of old mid new name log kept (Some p) keeps same in
-    ((d, ends.1.stands.0), inr (record { of_log = d; of_link = link_of old mid new name log kept p keeps same; empty = ends.0; stopped = ends.1 }))
+    ((d, ends.at.stands.0), inr (record { of_log = d; of_link = link_of old mid new name log kept p keeps same; records = ends.records; had = ends.had; stopped = ends.at }))
 
 log_faulted : (old mid new : WorldState) (f0 f1 : ℕ) (name : List ℕ) (o : Outcome) (n : ℕ) → Ran old mid f0 f1 name o → n ≡ status_of o → new ≡ reported o mid → n ≡ 4
     → LogFaulted old new name × (Unlinked fault.Log old new name ⊎ StoppedRun fault.Log old new name)
@@ -157,10 +163,10 @@ log_fault old mid new f0 f1 name o n r status is e = (log_faulted old mid new f0
 read_fault_at : (old mid new : WorldState) (f0 f1 : ℕ) (name : List ℕ) (gave : Gave) → KeepsAll gave name old mid → SameButWarned mid new → AtOutcome outcome.ReadFault gave f0 f1
     → ReadFaulted old new × StoppedRun fault.Read old new name
 read_fault_at old mid new f0 f1 name Nothing keeps same ends = absurd ends
-read_fault_at old mid new f0 f1 name (A_log log kept None) keeps same ends = absurd ends.1
+read_fault_at old mid new f0 f1 name (A_log log kept None) keeps same ends = absurd ends.at
 read_fault_at old mid new f0 f1 name (A_log log kept (Some p)) keeps same ends =
     let l : LinkOf old new = link_of old mid new name log kept p keeps same in
-    ((l, ends.1.stands.0), record { of_log = log_of old mid new name log kept (Some p) keeps same; of_link = l; empty = ends.0; stopped = ends.1 })
+    ((l, ends.at.stands.0), record { of_log = log_of old mid new name log kept (Some p) keeps same; of_link = l; records = ends.records; had = ends.had; stopped = ends.at })
 
 read_faulted : (old mid new : WorldState) (f0 f1 : ℕ) (name : List ℕ) (o : Outcome) (n : ℕ) → Ran old mid f0 f1 name o → n ≡ status_of o → new ≡ reported o mid → n ≡ 2
     → ReadFaulted old new × StoppedRun fault.Read old new name
@@ -174,10 +180,10 @@ read_fault old mid new f0 f1 name o n r status is e = (read_faulted old mid new 
 write_fault_at : (old mid new : WorldState) (f0 f1 : ℕ) (name : List ℕ) (gave : Gave) → KeepsAll gave name old mid → SameButWarned mid new → AtOutcome outcome.WriteFault gave f0 f1
     → WriteFaulted old new × StoppedRun fault.Write old new name
 write_fault_at old mid new f0 f1 name Nothing keeps same ends = absurd ends
-write_fault_at old mid new f0 f1 name (A_log log kept None) keeps same ends = absurd ends.1
+write_fault_at old mid new f0 f1 name (A_log log kept None) keeps same ends = absurd ends.at
 write_fault_at old mid new f0 f1 name (A_log log kept (Some p)) keeps same ends =
     let l : LinkOf old new = link_of old mid new name log kept p keeps same in
-    ((l, ends.1.stands.0), record { of_log = log_of old mid new name log kept (Some p) keeps same; of_link = l; empty = ends.0; stopped = ends.1 })
+    ((l, ends.at.stands.rose), record { of_log = log_of old mid new name log kept (Some p) keeps same; of_link = l; records = ends.records; had = ends.had; stopped = ends.at })
 
 write_faulted : (old mid new : WorldState) (f0 f1 : ℕ) (name : List ℕ) (o : Outcome) (n : ℕ) → Ran old mid f0 f1 name o → n ≡ status_of o → new ≡ reported o mid → n ≡ 3
     → WriteFaulted old new × StoppedRun fault.Write old new name
@@ -192,9 +198,9 @@ no_memory_at : (old mid new : WorldState) (f0 f1 : ℕ) (name : List ℕ) (gave 
     → Unlinked fault.NoMemory old new name ⊎ StoppedRun fault.NoMemory old new name
 no_memory_at old mid new f0 f1 name Nothing keeps same ends = inl (none_given old mid new name keeps same)
 no_memory_at old mid new f0 f1 name (A_log log kept None) keeps same ends =
-    inl (log_alone old mid new name log kept keeps same ends.0 ends.1)
+    inl (log_alone old mid new name log kept keeps same ends)
 no_memory_at old mid new f0 f1 name (A_log log kept (Some p)) keeps same ends =
-    inr (record { of_log = log_of old mid new name log kept (Some p) keeps same; of_link = link_of old mid new name log kept p keeps same; empty = ends.0; stopped = ends.1 })
+    inr (record { of_log = log_of old mid new name log kept (Some p) keeps same; of_link = link_of old mid new name log kept p keeps same; records = ends.records; had = ends.had; stopped = ends.at })
 
 pub stopped : (old mid new : WorldState) (f0 f1 : ℕ) (name : List ℕ) (o : Outcome) (n : ℕ) → Ran old mid f0 f1 name o → n ≡ status_of o → new ≡ reported o mid
     → (f : Fault) → n ≡ status_of_fault f → Unlinked f old new name ⊎ StoppedRun f old new name
@@ -209,14 +215,15 @@ whole_at : (old mid new : WorldState) (f0 f1 : ℕ) (name : List ℕ) (code : Op
     → new.warned ≡ (reported (outcome_at_end code) old).warned → AtOutcome (outcome_at_end code) gave f0 f1 → FinishedRun old new name n
 whole_at old mid new f0 f1 name None n Nothing keeps same status text ends = absurd ends
 whole_at old mid new f0 f1 name (Some code) n Nothing keeps same status text ends = absurd ends
-whole_at old mid new f0 f1 name None n (A_log log kept None) keeps same status text ends = absurd ends.1
-whole_at old mid new f0 f1 name (Some code) n (A_log log kept None) keeps same status text ends = absurd ends.1
+whole_at old mid new f0 f1 name None n (A_log log kept None) keeps same status text ends = absurd ends.at
+whole_at old mid new f0 f1 name (Some code) n (A_log log kept None) keeps same status text ends = absurd ends.at
 whole_at old mid new f0 f1 name None n (A_log log kept (Some p)) keeps same status text ends = record {
   of_log = log_of old mid new name log kept (Some p) keeps same;
   of_link = link_of old mid new name log kept p keeps same;
   code = None;
-  empty = ends.0;
-  whole = ends.1;
+  records = ends.records;
+  had = ends.had;
+  whole = ends.at;
   status_is = status;
   warned_is = text;
 }
@@ -224,8 +231,9 @@ whole_at old mid new f0 f1 name (Some code) n (A_log log kept (Some p)) keeps sa
   of_log = log_of old mid new name log kept (Some p) keeps same;
   of_link = link_of old mid new name log kept p keeps same;
   code = Some code;
-  empty = ends.0;
-  whole = ends.1;
+  records = ends.records;
+  had = ends.had;
+  whole = ends.at;
   status_is = status;
   warned_is = text;
 }
@@ -239,28 +247,29 @@ pub whole : (old mid new : WorldState) (f0 f1 : ℕ) (name : List ℕ) (o : Outc
 whole old mid new f0 f1 name o n r status is (inl e) = whole_from old mid new f0 f1 name o n None r status is (is_at n 0 o status e).1
 whole old mid new f0 f1 name o n r status is (inr e) = let b = is_at n 6 o status e in whole_from old mid new f0 f1 name o n (Some b.0) r status is b.1
 
--- a log that is not empty
-empty_at : (old mid new : WorldState) (f0 f1 : ℕ) (name : List ℕ) (o : Outcome) (gave : Gave) → KeepsAll gave name old mid → SameButWarned mid new → o ≢ outcome.BadLog → o ≢ outcome.LogFault → AtOutcome o gave f0 f1 → EmptyLog old new name
-empty_at old mid new f0 f1 name o Nothing keeps same a b ends = inl (nothing old mid new name keeps same).1
-empty_at old mid new f0 f1 name outcome.BadLog (A_log log kept link) keeps same a b ends = absurd (a refl)
-empty_at old mid new f0 f1 name outcome.LogFault (A_log log kept link) keeps same a b ends = absurd (b refl)
-empty_at old mid new f0 f1 name outcome.Served (A_log log kept link) keeps same a b ends = inr (log_of old mid new name log kept link keeps same, ends.0)
-empty_at old mid new f0 f1 name outcome.Usage (A_log log kept link) keeps same a b ends = inr (log_of old mid new name log kept link keeps same, ends.0)
-empty_at old mid new f0 f1 name outcome.ReadFault (A_log log kept link) keeps same a b ends = inr (log_of old mid new name log kept link keeps same, ends.0)
-empty_at old mid new f0 f1 name outcome.WriteFault (A_log log kept link) keeps same a b ends = inr (log_of old mid new name log kept link keeps same, ends.0)
-empty_at old mid new f0 f1 name outcome.NoMemory (A_log log kept link) keeps same a b ends = inr (log_of old mid new name log kept link keeps same, ends.0)
-empty_at old mid new f0 f1 name (outcome.Refused code) (A_log log kept link) keeps same a b ends = inr (log_of old mid new name log kept link keeps same, ends.0)
-empty_at old mid new f0 f1 name outcome.CannotOpen (A_log log kept link) keeps same a b ends = inr (log_of old mid new name log kept link keeps same, ends.0)
+-- a log that was a text of records
+good_at : (old mid new : WorldState) (f0 f1 : ℕ) (name : List ℕ) (o : Outcome) (gave : Gave) → KeepsAll gave name old mid → SameButWarned mid new → ((at : ℕ) → o ≢ outcome.BadLog at) → o ≢ outcome.LogFault → o ≢ outcome.NoMemory
+    → AtOutcome o gave f0 f1 → GoodLog old new name
+good_at old mid new f0 f1 name o Nothing keeps same a b m ends = inl (nothing old mid new name keeps same).1
+good_at old mid new f0 f1 name (outcome.BadLog at) (A_log log kept link) keeps same a b m ends = absurd (a at refl)
+good_at old mid new f0 f1 name outcome.LogFault (A_log log kept link) keeps same a b m ends = absurd (b refl)
+good_at old mid new f0 f1 name outcome.NoMemory (A_log log kept link) keeps same a b m ends = absurd (m refl)
+good_at old mid new f0 f1 name outcome.Served (A_log log kept link) keeps same a b m ends = inr (log_of old mid new name log kept link keeps same, (ends.records, ends.had))
+good_at old mid new f0 f1 name outcome.Usage (A_log log kept link) keeps same a b m ends = inr (log_of old mid new name log kept link keeps same, (ends.records, ends.had))
+good_at old mid new f0 f1 name outcome.ReadFault (A_log log kept link) keeps same a b m ends = inr (log_of old mid new name log kept link keeps same, (ends.records, ends.had))
+good_at old mid new f0 f1 name outcome.WriteFault (A_log log kept link) keeps same a b m ends = inr (log_of old mid new name log kept link keeps same, (ends.records, ends.had))
+good_at old mid new f0 f1 name (outcome.Refused code) (A_log log kept link) keeps same a b m ends = inr (log_of old mid new name log kept link keeps same, (ends.records, ends.had))
+good_at old mid new f0 f1 name outcome.CannotOpen (A_log log kept link) keeps same a b m ends = inr (log_of old mid new name log kept link keeps same, (ends.records, ends.had))
 
-pub good_log : (old mid new : WorldState) (f0 f1 : ℕ) (name : List ℕ) (o : Outcome) (n : ℕ) → Ran old mid f0 f1 name o → n ≡ status_of o → new ≡ reported o mid → n ≢ 7 → n ≢ 4 → EmptyLog old new name
-good_log old mid new f0 f1 name o n r status is seven four =
-    empty_at old mid new f0 f1 name o r.gave r.keeps (same_but o mid new is) (λ e. seven (status ∙ ap status_of e)) (λ e. four (status ∙ ap status_of e)) r.ends
+pub good_log : (old mid new : WorldState) (f0 f1 : ℕ) (name : List ℕ) (o : Outcome) (n : ℕ) → Ran old mid f0 f1 name o → n ≡ status_of o → new ≡ reported o mid → n ≢ 7 → n ≢ 4 → n ≢ 5 → GoodLog old new name
+good_log old mid new f0 f1 name o n r status is seven four five =
+    good_at old mid new f0 f1 name o r.gave r.keeps (same_but o mid new is) (λ at e. seven (status ∙ ap status_of e)) (λ e. four (status ∙ ap status_of e)) (λ e. five (status ∙ ap status_of e)) r.ends
 
 -- a run of `pipe` is no usage
 not_usage_at : (gave : Gave) (f0 f1 : ℕ) → AtOutcome outcome.Usage gave f0 f1 → ⊥
 not_usage_at Nothing f0 f1 ends = ends
-not_usage_at (A_log log kept None) f0 f1 ends = ends.1
-not_usage_at (A_log log kept (Some p)) f0 f1 ends = ends.1
+not_usage_at (A_log log kept None) f0 f1 ends = ends.at
+not_usage_at (A_log log kept (Some p)) f0 f1 ends = ends.at
 
 pub not_usage : (old mid : WorldState) (f0 f1 : ℕ) (name : List ℕ) (o : Outcome) (n : ℕ) → Ran old mid f0 f1 name o → n ≡ status_of o → n ≡ 1 → ⊥
 not_usage old mid f0 f1 name o n r status e =

@@ -1,10 +1,15 @@
+pub mod Growth
+pub mod Puts
+pub mod Replies
 pub mod Writes
 pub mod Said
+pub mod Gets
 pub mod SoFars
 pub mod Readings
 pub mod Wholes
 pub mod Stops
 pub mod Turns
+pub mod Opens
 pub mod Ends
 pub mod Clauses
 pub mod Fronts

@@ -2,7 +2,6 @@
 use Rattle.std.proofs.Common.{subst, ◌≡◌, ℕ, ◌+◌, ◌≤◌, List, [], ◌∷◌, ◌++◌, length, take, Option, Some, None, Bool, false, ap, sym, ◌∙◌, arith, length-append, IsTrue, IfSome}
 use Rattle.std.specs.Prelude.{Result, Ok, Err, IfOk}
 use Rattle.std.specs.Io.KnownBytes.{prepend_known, append_known}
-use Rattle.std.proofs.lemmas.List.{append-nil}
 use Rattle.demi_spec.specs.Request.{Request, Put, Get, End, GoesOn, spelling}
 use Rattle.demi_spec.specs.Input.{EndFrame, Clean, Refused, Open, Ends, Front, Takes, Request_of, Refused_end, front}
 use Rattle.demi_spec.specs.Input as input
@@ -14,50 +13,45 @@ use Rattle.demi_frame.specs.declared.decoder.Step.{Step}
 use Rattle.demi_frame.specs.declared.decoder.Step.TheVariants as step
 use Rattle.demi_core.specs.Outside.{EndsAt}
 use Rattle.demi_core.specs.World.{Link, Log}
-use Rattle.demi_store.specs.Contents.{Contents}
-use Rattle.demi_store.proofs.Growth.{none_grown}
+use Rattle.demi_cli.specs.Contents.{Contents}
 use Rattle.demi_cli.specs.declared.serving.Fault.{Fault}
-use Rattle.demi_cli.specs.Serving.{Finished, AtEnd, contents_of, reply_on}
-use Rattle.demi_cli.specs.Steps.{SoFar, Answered}
+use Rattle.demi_cli.specs.Serving.{Finished, AtEnd, contents_of}
+use Rattle.demi_cli.specs.Steps.{SoFar, reply_on}
 use Rattle.demi_cli.proofs.Wholes.{whole_end, whole_refused}
 
 -- a refused frame
-pub refused_whole : (r : Result (Option ℕ) Fault) (link kept : Link) (log kept_log : Log) (rest : List ℕ) (w : Option (List ℕ)) (n : ℕ) (records : List Record) (ended : Bool) (code : ℕ)
-    → SoFar link.left kept.left link.taken kept.taken rest link.written w (contents_of log) (contents_of kept_log) n records → front ended rest ≡ Ends (Refused code) → (IsTrue ended → AtEnd kept)
-    → IfOk r (λ said. (said ≡ Some code) × (kept.written ≡ append_known w (reply_on [] n (Refused_end code)))) → IfOk r (λ c. Finished link kept log kept_log c)
-refused_whole (Err f) link kept log kept_log rest w n records ended code s ends end said = tt
-refused_whole (Ok c) link kept log kept_log rest w n records ended code s ends end said =
-    subst (λ (x : Option ℕ). Finished link kept log kept_log x) (sym said.0) (whole_refused link kept log kept_log rest w n records ended code s ends end said.1)
+pub refused_whole : (r : Result (Option ℕ) Fault) (told : Bool) (old : List Record) (link kept : Link) (log kept_log : Log) (rest : List ℕ) (w : Option (List ℕ)) (n : ℕ) (records : List Record) (ended : Bool) (code : ℕ)
+    → SoFar told old link.left kept.left link.taken kept.taken rest link.written w (contents_of log) (contents_of kept_log) n records → front ended rest ≡ Ends (Refused code) → (IsTrue ended → AtEnd kept)
+    → IfOk r (λ said. (said ≡ Some code) × (kept.written ≡ append_known w (reply_on [] n (Refused_end code)))) → IfOk r (λ c. Finished told old link kept log kept_log c)
+refused_whole (Err f) told old link kept log kept_log rest w n records ended code s ends end said = tt
+refused_whole (Ok c) told old link kept log kept_log rest w n records ended code s ends end said =
+    subst (λ (x : Option ℕ). Finished told old link kept log kept_log x) (sym said.0) (whole_refused told old link kept log kept_log rest w n records ended code s ends end said.1)
 
 -- an end frame
-pub bye_whole : (r : Result (Option ℕ) Fault) (link kept : Link) (log kept_log : Log) (rest after : List ℕ) (w : Option (List ℕ)) (n : ℕ) (records : List Record)
-    → SoFar link.left kept.left link.taken kept.taken rest link.written w (contents_of log) (contents_of kept_log) n records → Takes rest End after
-    → IfOk r (λ said. (said ≡ None) × (kept.written ≡ append_known w (reply_on [] n (Request_of End)))) → IfOk r (λ c. Finished link kept log kept_log c)
-bye_whole (Err f) link kept log kept_log rest after w n records s takes said = tt
-bye_whole (Ok c) link kept log kept_log rest after w n records s takes said =
-    subst (λ (x : Option ℕ). Finished link kept log kept_log x) (sym said.0) (whole_end link kept log kept_log rest after w n records s takes said.1)
-
--- a get adds nothing
-pub get_answered : (records : List Record) (n : ℕ) (key : List ℕ) (w1 w2 : Option (List ℕ)) (c : Contents) → w2 ≡ append_known w1 (reply_on records n (Request_of (Get key))) → Answered records records n (Request_of (Get key)) w1 w2 c c
-get_answered records n key w1 w2 c said = record { says = said; logs = none_grown c; records = sym (append-nil records) }
+pub bye_whole : (r : Result (Option ℕ) Fault) (told : Bool) (old : List Record) (link kept : Link) (log kept_log : Log) (rest after : List ℕ) (w : Option (List ℕ)) (n : ℕ) (records : List Record)
+    → SoFar told old link.left kept.left link.taken kept.taken rest link.written w (contents_of log) (contents_of kept_log) n records → Takes rest End after
+    → IfOk r (λ said. (said ≡ None) × (kept.written ≡ append_known w (reply_on [] n (Request_of End)))) → IfOk r (λ c. Finished told old link kept log kept_log c)
+bye_whole (Err f) told old link kept log kept_log rest after w n records s takes said = tt
+bye_whole (Ok c) told old link kept log kept_log rest after w n records s takes said =
+    subst (λ (x : Option ℕ). Finished told old link kept log kept_log x) (sym said.0) (whole_end told old link kept log kept_log rest after w n records s takes said.1)
 
 -- a read that gave nothing
 same_left : (l1 l2 : Option (List ℕ)) → l1 ≡ prepend_known [] l2 → l1 ≡ l2
 same_left l1 None e = e
 same_left l1 (Some x) e = e
 
-pub so_none : (l0 l1 l2 : Option (List ℕ)) (t0 t1 t2 given : ℕ) (rest room : List ℕ) (w0 w1 : Option (List ℕ)) (c d : Contents) (n : ℕ) (records : List Record)
-    → SoFar l0 l1 t0 t1 rest w0 w1 c d n records → l1 ≡ prepend_known (take given room) l2 → t2 ≡ t1 + given → given ≡ 0 → SoFar l0 l2 t0 t2 rest w0 w1 c d n records
-so_none l0 l1 l2 t0 t1 t2 given rest room w0 w1 c d n records s bytes count none =
+pub so_none : (told : Bool) (old : List Record) (l0 l1 l2 : Option (List ℕ)) (t0 t1 t2 given : ℕ) (rest room : List ℕ) (w0 w1 : Option (List ℕ)) (c d : Contents) (n : ℕ) (records : List Record)
+    → SoFar told old l0 l1 t0 t1 rest w0 w1 c d n records → l1 ≡ prepend_known (take given room) l2 → t2 ≡ t1 + given → given ≡ 0 → SoFar told old l0 l2 t0 t2 rest w0 w1 c d n records
+so_none told old l0 l1 l2 t0 t1 t2 given rest room w0 w1 c d n records s bytes count none =
     let same : l1 ≡ l2 = same_left l1 l2 (bytes ∙ ap (λ k. prepend_known (take k room) l2) none) in
     let more : t1 ≡ t2 = omega arith in
-    subst (λ (l : Option (List ℕ)). SoFar l0 l t0 t2 rest w0 w1 c d n records) same (subst (λ t. SoFar l0 l1 t0 t rest w0 w1 c d n records) more s)
+    subst (λ (l : Option (List ℕ)). SoFar told old l0 l t0 t2 rest w0 w1 c d n records) same (subst (λ t. SoFar told old l0 l1 t0 t rest w0 w1 c d n records) more s)
 
 -- a read that failed
-pub so_failed : (l0 l1 l2 : Option (List ℕ)) (t0 t1 t2 : ℕ) (rest : List ℕ) (w0 w1 : Option (List ℕ)) (c d : Contents) (n : ℕ) (records : List Record)
-    → SoFar l0 l1 t0 t1 rest w0 w1 c d n records → l2 ≡ l1 → t2 ≡ t1 → SoFar l0 l2 t0 t2 rest w0 w1 c d n records
-so_failed l0 l1 l2 t0 t1 t2 rest w0 w1 c d n records s left taken =
-    subst (λ (l : Option (List ℕ)). SoFar l0 l t0 t2 rest w0 w1 c d n records) (sym left) (subst (λ t. SoFar l0 l1 t0 t rest w0 w1 c d n records) (sym taken) s)
+pub so_failed : (told : Bool) (old : List Record) (l0 l1 l2 : Option (List ℕ)) (t0 t1 t2 : ℕ) (rest : List ℕ) (w0 w1 : Option (List ℕ)) (c d : Contents) (n : ℕ) (records : List Record)
+    → SoFar told old l0 l1 t0 t1 rest w0 w1 c d n records → l2 ≡ l1 → t2 ≡ t1 → SoFar told old l0 l2 t0 t2 rest w0 w1 c d n records
+so_failed told old l0 l1 l2 t0 t1 t2 rest w0 w1 c d n records s left taken =
+    subst (λ (l : Option (List ℕ)). SoFar told old l0 l t0 t2 rest w0 w1 c d n records) (sym left) (subst (λ t. SoFar told old l0 l1 t0 t rest w0 w1 c d n records) (sym taken) s)
 
 ends_none : (l : Option (List ℕ)) (k : ℕ) → EndsAt l k → k ≡ 0 → IfSome l (λ left. left ≡ [])
 ends_none None k e none = tt

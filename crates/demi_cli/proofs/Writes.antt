@@ -3,7 +3,7 @@ use Rattle.std.proofs.Common.{◌≡◌, ℕ, ◌+◌, ◌-◌, ◌≤◌, ◌<�
 use Rattle.std.proofs.lemmas.List.{drop-append-le, take-append-drop}
 use Rattle.std.proofs.Math.Seq.{take-add, drop-append-add}
 use Rattle.std.specs.Io.KnownBytes.{append_known}
-use Rattle.demi_store.proofs.Growth.{append-append}
+use Rattle.demi_cli.proofs.Growth.{append-append}
 
 -- some bytes more of a piece
 pub more_written : (o n m : Option (List ℕ)) (piece : List ℕ) (at k : ℕ) → n ≡ append_known o (take at piece) → m ≡ append_known n (take k (drop at piece)) → m ≡ append_known o (take (at + k) piece)

@@ -1,3 +1,4 @@
+pub mod Contents
 pub mod Serving
 pub mod Steps
 pub mod Outcome

@@ -1,5 +1,6 @@
 -- How a run ended: its status and its text.
 use Rattle.std.specs.Prelude.{ℕ, Bool, false, ◌==◌, if◌then◌else◌, List, [], ◌∷◌, ◌++◌, codes, bytes_eq}
+use Rattle.std.specs.Fmt.{decimal}
 use Rattle.demi_core.specs.World.{WorldState, after_warn}
 use Rattle.demi_cli.specs.declared.outcome.Outcome.{Outcome}
 use Rattle.demi_cli.specs.declared.outcome.Outcome.TheVariants as outcome
@@ -23,7 +24,7 @@ status_of outcome.WriteFault = 3
 status_of outcome.LogFault = 4
 status_of outcome.NoMemory = 5
 status_of (outcome.Refused code) = 6
-status_of outcome.BadLog = 7
+status_of (outcome.BadLog at) = 7
 status_of outcome.CannotOpen = 8
 
 -- a code is from 1 to 5: its digit
@@ -39,7 +40,7 @@ text_of outcome.WriteFault = codes "demi: write fault on link 0"
 text_of outcome.LogFault = codes "demi: log fault"
 text_of outcome.NoMemory = codes "demi: out of memory"
 text_of (outcome.Refused code) = codes "demi: link 0 refused with code " ++ digit code
-text_of outcome.BadLog = codes "demi: bad log at byte 0"
+text_of (outcome.BadLog at) = codes "demi: bad log at byte " ++ decimal at
 text_of outcome.CannotOpen = codes "demi: cannot open"
 
 -- a world that was warned, where there is something to say; what else it tells stays

@@ -1,13 +1,15 @@
 -- What each exit status of `pipe LOG` says, by what the world gave and what it keeps. First the words for what was given
 -- and kept, then what holds whatever the status, then status by status.
-use Rattle.std.specs.Prelude.{Bool, ◌≡◌, ◌≢◌, ℕ, ◌+◌, ◌⊎◌, List, [], ◌∷◌, ◌++◌, Option, Some, None}
+use Rattle.std.specs.Prelude.{Bool, ◌≡◌, ◌≢◌, ℕ, ◌==◌, if◌then◌else◌, ◌⊎◌, List, [], ◌∷◌, ◌++◌, length, take, Option, Some, None, IfSome, Ok, Err}
 use Rattle.std.specs.Io.KnownBytes.{append_known}
 use Rattle.demi_core.specs.Outside.{Rose}
 use Rattle.demi_core.specs.World.{WorldState, Link, Log, after_links, after_keep_link, after_log, after_keep_log, LogRefused}
+use Rattle.demi_logq.specs.Items.{tells}
 use Rattle.demi_spec.specs.LogText.{header}
-use Rattle.demi_store.specs.Plain.{HeadedInPart}
+use Rattle.demi_spec.specs.Record.{Record, records, log_of}
 use Rattle.demi_spec.specs.Input.{asked}
-use Rattle.demi_cli.specs.Serving.{Finished, Stopped, Took, Says, said_to, contents_of}
+use Rattle.demi_cli.specs.Contents.{grown}
+use Rattle.demi_cli.specs.Serving.{Finished, Stopped, Took, Says, Said, contents_of}
 use Rattle.demi_cli.specs.declared.serving.Fault.{Fault}
 use Rattle.demi_cli.specs.declared.serving.Fault.TheVariants as fault
 use Rattle.demi_cli.specs.declared.outcome.Outcome.{Outcome}
@@ -35,9 +37,18 @@ NoLink old new = new.given_links ≡ old.given_links
 abbrev pub NoLog : WorldState → WorldState → Type 0
 NoLog old new = new.given_logs ≡ old.given_logs
 
--- an empty log that got its header
-abbrev pub headed : Log → Log
-headed log = record log { bytes = append_known log.bytes header; held = log.held + 8 }
+-- a log that was opened: an empty one has its header now
+abbrev pub opened : Log → Log
+opened log = record log { bytes = if log.held == 0 then append_known log.bytes header else log.bytes; held = if log.held == 0 then 8 else log.held }
+
+-- A log was a text of these records. Where it does not tell its bytes, its length alone is bound.
+pub record HadRecords (log : Log) (old : List Record) : Type 0 where
+  pub read : IfSome log.bytes (λ b. records b ≡ Ok old)
+  pub size : ((log.held ≡ 0) × (old ≡ [])) ⊎ (log.held ≡ length (log_of old))
+
+-- A log that was not opened: it is as it was, or it was empty and has a front of its header.
+abbrev pub HeadedInPart : Log → Log → Type 0
+HeadedInPart log kept = (contents_of kept ≡ contents_of log) ⊎ ((log.held ≡ 0) × ((k : ℕ) × (contents_of kept ≡ grown (contents_of log) (take k header))))
 
 -- what the world gave in a run, and as what it keeps it: nothing, a log, or a log and a link
 pub data Gave : Type 0 where
@@ -71,13 +82,15 @@ abbrev pub outcome_at_end : Option ℕ → Outcome
 outcome_at_end None = outcome.Served
 outcome_at_end (Some code) = outcome.Refused code
 
--- The input was read to an end, all is answered and logged; the status and the warning are those of this end
+-- The input was read to an end, all is answered on the records that the log had, and logged; the status and the warning are those of this
+-- end
 pub record FinishedRun (old new : WorldState) (name : List ℕ) (status : ℕ) : Type 0 where
   pub of_log : LogOf old new name
   pub of_link : LinkOf old new
   pub code : Option ℕ
-  pub empty : of_log.log.held ≡ 0
-  pub whole : Finished of_link.link of_link.kept (headed of_log.log) of_log.kept code
+  pub records : List Record
+  pub had : HadRecords of_log.log records
+  pub whole : Finished (tells of_log.log.bytes) records of_link.link of_link.kept (opened of_log.log) of_log.kept code
   pub status_is : status ≡ status_of (outcome_at_end code)
   pub warned_is : new.warned ≡ (reported (outcome_at_end code) old).warned
 
@@ -102,11 +115,15 @@ LogFaulted old new name = (d : LogOf old new name) × Rose d.log.faults d.kept.f
 pub record StoppedRun (fault : Fault) (old new : WorldState) (name : List ℕ) : Type 0 where
   pub of_log : LogOf old new name
   pub of_link : LinkOf old new
-  pub empty : of_log.log.held ≡ 0
-  pub stopped : Stopped fault of_link.link of_link.kept (headed of_log.log) of_log.kept
+  pub records : List Record
+  pub had : HadRecords of_log.log records
+  pub stopped : Stopped fault (tells of_log.log.bytes) records of_link.link of_link.kept (opened of_log.log) of_log.kept
 
--- what was written on the link is a front of what the one-thread store says to all that the bytes taken ask
-pub record FrontRun (old new : WorldState) : Type 0 where
+-- what was written on the link is a front of what the one-thread store on the records that the log had says to all that the bytes taken ask
+pub record FrontRun (old new : WorldState) (name : List ℕ) : Type 0 where
+  pub of_log : LogOf old new name
+  pub records : List Record
+  pub had : HadRecords of_log.log records
   pub of_link : LinkOf old new
   pub taken : List ℕ
   pub ended : Bool
@@ -114,27 +131,32 @@ pub record FrontRun (old new : WorldState) : Type 0 where
   pub more : List ℕ
   pub took : Took of_link.link of_link.kept taken
   pub says : Says of_link.link of_link.kept said
-  pub front : said_to (asked taken ended) ≡ said ++ more
+  pub front : Said (tells of_log.log.bytes) records (asked taken ended) (said ++ more)
 
--- no link was taken, and of logs none, or an empty one that has its header
+-- no link was taken, and of logs none, or one that was not opened
 abbrev pub BeforeLink : WorldState → WorldState → List ℕ → Type 0
-BeforeLink old new name = NoLink old new × (NoLog old new ⊎ ((d : LogOf old new name) × (d.log.held ≡ 0) × (contents_of d.kept ≡ contents_of (headed d.log))))
+BeforeLink old new name = NoLink old new × (NoLog old new ⊎ ((d : LogOf old new name) × HeadedInPart d.log d.kept))
 
 -- it stopped before a link was taken
 abbrev pub Unlinked : Fault → WorldState → WorldState → List ℕ → Type 0
 Unlinked fault.Read old new name = ⊥
 Unlinked fault.Write old new name = ⊥
-Unlinked fault.Log old new name = NoLink old new × ((d : LogOf old new name) × HeadedInPart d.log.held (contents_of d.log) (contents_of d.kept))
+Unlinked fault.Log old new name = NoLink old new × ((d : LogOf old new name) × HeadedInPart d.log d.kept)
 Unlinked fault.NoMemory old new name = BeforeLink old new name
 
--- whatever the status but 4 and 7: a log was given only if it was empty
-abbrev pub EmptyLog : WorldState → WorldState → List ℕ → Type 0
-EmptyLog old new name = NoLog old new ⊎ ((d : LogOf old new name) × (d.log.held ≡ 0))
+-- whatever the status but 4, 5 and 7: a log was given only if it was a text of records
+abbrev pub GoodLog : WorldState → WorldState → List ℕ → Type 0
+GoodLog old new name = NoLog old new ⊎ ((d : LogOf old new name) × ((had : List Record) × HadRecords d.log had))
 
--- 7. The log held bytes already, and is as it was; no link was taken
+-- the log is no text of records, and this is its first bad byte, where it tells its bytes; it is not empty, and is as it was
+abbrev pub IsBad : Log → Log → ℕ → Type 0
+IsBad log kept at = IfSome log.bytes (λ b. records b ≡ Err at) × (log.held ≢ 0) × (contents_of kept ≡ contents_of log)
+
+-- 7. The log is no text of records, and is as it was; the warning has its first bad byte, and no link was taken
 abbrev pub BadLog : WorldState → WorldState → List ℕ → Type 0
-BadLog old new name = NoLink old new × ((d : LogOf old new name) × (d.log.held ≢ 0) × (contents_of d.kept ≡ contents_of d.log))
+BadLog old new name = NoLink old new × ((d : LogOf old new name) × ((at : ℕ) × IsBad d.log d.kept at × (new.warned ≡ (reported (outcome.BadLog at) old).warned)))
 
--- 8. The world failed to give the log, or the link
+-- 8. The world failed to give the log, of which nothing was then given, or the link, and the log was a text of records and was opened
 abbrev pub CannotOpen : WorldState → WorldState → List ℕ → ℕ → ℕ → Type 0
-CannotOpen old new name faults0 faults1 = Rose faults0 faults1 × BeforeLink old new name
+CannotOpen old new name faults0 faults1 = Rose faults0 faults1 × NoLink old new
+    × (NoLog old new ⊎ ((d : LogOf old new name) × ((had : List Record) × HadRecords d.log had × (contents_of d.kept ≡ contents_of (opened d.log)))))

@@ -15,8 +15,8 @@ pub enum Outcome {
     NoMemory,
     /// The input has a refused frame, with its code from 1 to 5; all before it is answered. Status 6.
     Refused(u8),
-    /// The log is not empty. Status 7.
-    BadLog,
+    /// The log is no text of records; this is the offset of its first bad byte. Status 7.
+    BadLog(u64),
     /// The world gave no log or no link. Status 8.
     CannotOpen,
 }

@@ -1,22 +1,33 @@
-ghost use Rattle.std.specs.Prelude.{◌≡◌, ◌+◌, ◌≤◌, [], List, ℕ, Option, Some, None, Bool, true, false, map, string_bytes, MatchOption, IfOk, OnErr, IsErrOf, ◌∷◌, ◌++◌, ◌↔◌, ◌≢◌, ◌⊎◌};
+ghost use Rattle.std.specs.Prelude.{◌≡◌, ◌+◌, ◌≤◌, [], List, ℕ, Option, Some, None, Bool, true, false, map, string_bytes, MatchOption, IfOk, OnErr, IsErrOf, ◌∷◌, ◌++◌, ◌↔◌, ◌≢◌, ◌⊎◌, IfErr, length};
 ghost use Rattle.demi_core.specs.Outside.{Rose};
 ghost use Rattle.demi_core.specs.World.{Link, Log, WorldState, after_links, after_warn};
 ghost use Rattle.demi_cli.specs.Outcome.{is_pipe, log_name, reported, status_of};
 ghost use Rattle.demi_cli.specs.declared.serving.Fault.{Fault};
-ghost use Rattle.demi_cli.specs.Reading.{ReadsOnlyWhatIsDue};
-ghost use Rattle.demi_cli.specs.Ended.{AtLink, Ran, outcome_of};
-ghost use Rattle.demi_cli.specs.Run.{with_link, Keeps, CannotOpen, BadLog, EmptyLog, LogFaulted, ReadFaulted, WriteFaulted, FinishedRun, NoLink, Unlinked, StoppedRun, FrontRun, status_of_fault, Warned};
+ghost use Rattle.demi_cli.specs.Reading.{ReadsOnlyWhatIsDue, RunReads};
+ghost use Rattle.demi_cli.specs.Steps.{IsReady};
+ghost use Rattle.demi_cli.specs.Contents.{contents};
+ghost use Rattle.demi_cli.specs.Serving.{contents_of};
+ghost use Rattle.demi_logq.specs.Items.{tells};
+ghost use Rattle.demi_cli.specs.Ended.{AtLink, Ran, Unopened, outcome_of, refused_as};
+ghost use Rattle.demi_cli.specs.Run.{with_link, Keeps, CannotOpen, BadLog, GoodLog, HadRecords, opened, LogFaulted, ReadFaulted, WriteFaulted, FinishedRun, NoLink, Unlinked, StoppedRun, FrontRun, status_of_fault, Warned};
 
 use crate::outcome::Outcome;
 use crate::reporting::report;
 use crate::serving::{Fault, serve};
-use demi_core::{Halt, Site, World};
+use demi_core::{Disk, Halt, Site, World};
 use demi_frame::Decoder;
-use demi_store::{PlainRefusal, PlainStore};
-use std::alloc::Global;
+use demi_logq::{Log, LogRefusal};
+use demi_store::StoreCore;
+use std::alloc::{AllocError, Global};
 
 // How many bytes one read gives at most.
 const ROOM_BYTES: usize = 4096;
+
+// How many bytes a value has at most.
+const MAX_VALUE_BYTES: usize = 65_536;
+
+// How many records a log may have.
+const MAX_RECORDS: u32 = 1_000_000;
 
 // The one link of standard input and output.
 fn first_link<W: World>(alloc: Global, world: &mut W) -> Result<(W::In, W::Out), Halt>
@@ -56,19 +67,63 @@ fn outcome_of(end: Result<Option<u8>, Fault>) -> Outcome
     }
 }
 
+// A room of so many bytes.
+fn room_of(alloc: Global, size: usize) -> Result<Vec<u8>, AllocError>
+    ensures { IfOk result (λ room. length room.items ≡ size) }
+{
+    Vec::from_elem(alloc, 0, size)
+}
+
+// The outcome of a log that is refused at its opening.
+fn refused(refusal: LogRefusal) -> Outcome
+    requires { (refusal ≢ LogRefusal.Full) × (refusal ≢ LogRefusal.Broken) }
+    ensures { result ≡ refused_as refusal }
+{
+    match refusal {
+        LogRefusal::Failed => Outcome::LogFault,
+        LogRefusal::NoMemory => Outcome::NoMemory,
+        LogRefusal::BadLog(at) => Outcome::BadLog(at),
+        // No opening is refused so.
+        LogRefusal::Full | LogRefusal::Broken => unreachable!(),
+    }
+}
+
+// A store over a disk: an empty one gets its header.
+fn open<D: Disk>(alloc: Global, disk: D) -> Result<StoreCore<D>, (D, Outcome)>
+    ensures ready { IfOk result (λ s. IsReady s) }
+    ensures had { IfOk result (λ s. HadRecords (record { held = D.held disk; bytes = D.bytes disk; faults = D.faults disk }) s.records) }
+    ensures stands { IfOk result (λ s. contents (D.bytes s.log.disk) (D.held s.log.disk) ≡ contents_of (opened (record { held = D.held disk; bytes = D.bytes disk; faults = D.faults disk }))) }
+    ensures refused { IfErr result (λ e. Unopened e.1
+        (record { held = D.held disk; bytes = D.bytes disk; faults = D.faults disk })
+        (record { held = D.held e.0; bytes = D.bytes e.0; faults = D.faults e.0 })) }
+    ensures later { IfOk result (λ s. D.faults disk ≤ D.faults s.log.disk) }
+{
+    let log = match Log::make(alloc, disk, MAX_RECORDS) {
+        Ok(log) => log,
+        Err((disk, refusal)) => return Err((disk, refused(refusal))),
+    };
+    match StoreCore::make(alloc, log, MAX_RECORDS) {
+        Ok(store) => Ok(store),
+        Err((log, refusal)) => Err((log.disk(), refused(refusal))),
+    }
+}
+
 // Takes a link, serves it and keeps it.
-fn over_link<W: World>(alloc: Global, store: &mut PlainStore<W::Log>, world: &mut W) -> Outcome
-    requires empty { store.old.records ≡ [] }
-    ensures ends { (link : Option (Link × Link)) × (W.state world.new ≡ with_link link (W.state world.old)) × AtLink result link
-        (record { held = W.Log.held store.old.disk; bytes = W.Log.bytes store.old.disk; faults = W.Log.faults store.old.disk })
-        (record { held = W.Log.held store.new.disk; bytes = W.Log.bytes store.new.disk; faults = W.Log.faults store.new.disk })
+fn over_link<W: World>(alloc: Global, store: &mut StoreCore<W::Log>, world: &mut W) -> Outcome
+    requires ready { IsReady store.old }
+    ensures ends { (link : Option (Link × Link)) × (W.state world.new ≡ with_link link (W.state world.old)) × AtLink result (tells (W.Log.bytes store.old.log.disk)) store.old.records link
+        (record { held = W.Log.held store.old.log.disk; bytes = W.Log.bytes store.old.log.disk; faults = W.Log.faults store.old.log.disk })
+        (record { held = W.Log.held store.new.log.disk; bytes = W.Log.bytes store.new.log.disk; faults = W.Log.faults store.new.log.disk })
         (W.faults world.old) (W.faults world.new) }
-    ensures reads { ReadsOnlyWhatIsDue W.In.reads W.In.taken W.In.left W.In.faults (W.next_source world.old) (W.kept_source world.new) (W.state world.old) (W.state world.new) }
-    ensures later { W.Log.faults store.old.disk ≤ W.Log.faults store.new.disk }
+    ensures reads { ReadsOnlyWhatIsDue (tells (W.Log.bytes store.old.log.disk)) store.old.records W.In.reads W.In.taken W.In.left W.In.faults (W.next_source world.old) (W.kept_source world.new) (W.state world.old) (W.state world.new) }
+    ensures later { W.Log.faults store.old.log.disk ≤ W.Log.faults store.new.log.disk }
     ensures faults { W.faults world.old ≤ W.faults world.new }
     ensures print_faults { W.print_faults world.new ≡ W.print_faults world.old }
 {
     let Ok(mut decoder) = Decoder::make(alloc) else {
+        return Outcome::NoMemory;
+    };
+    let Ok(mut values) = room_of(alloc, MAX_VALUE_BYTES) else {
         return Outcome::NoMemory;
     };
     let (mut source, mut sink) = match first_link(alloc, world) {
@@ -77,7 +132,14 @@ fn over_link<W: World>(alloc: Global, store: &mut PlainStore<W::Log>, world: &mu
         Err(Halt::NoMemory) => return Outcome::NoMemory,
     };
     let mut room = [0; ROOM_BYTES];
-    let end = serve(&mut source, &mut sink, store, &mut decoder, &mut room);
+    let end = serve(
+        &mut source,
+        &mut sink,
+        store,
+        &mut decoder,
+        &mut room,
+        &mut values,
+    );
     world.keep_link(0, source, sink);
     outcome_of(end)
 }
@@ -85,7 +147,7 @@ fn over_link<W: World>(alloc: Global, store: &mut PlainStore<W::Log>, world: &mu
 // Runs `pipe` over a log.
 fn pipe<W: World>(alloc: Global, name: &str, world: &mut W) -> Outcome
     ensures ran { Ran (W.state world.old) (W.state world.new) (W.faults world.old) (W.faults world.new) name.now result }
-    ensures reads { ReadsOnlyWhatIsDue W.In.reads W.In.taken W.In.left W.In.faults (W.next_source world.old) (W.kept_source world.new) (W.state world.old) (W.state world.new) }
+    ensures reads { RunReads W.In.reads W.In.taken W.In.left W.In.faults (W.next_source world.old) (W.kept_source world.new) (W.state world.old) (W.state world.new) name.now }
     ensures print_faults { W.print_faults world.new ≡ W.print_faults world.old }
 {
     let log = match world.log(alloc, name) {
@@ -93,19 +155,15 @@ fn pipe<W: World>(alloc: Global, name: &str, world: &mut W) -> Outcome
         Err(Halt::Failed) => return Outcome::CannotOpen,
         Err(Halt::NoMemory) => return Outcome::NoMemory,
     };
-    let mut store = match PlainStore::make(alloc, log) {
+    let mut store = match open(alloc, log) {
         Ok(store) => store,
-        Err((log, refusal)) => {
+        Err((log, outcome)) => {
             world.keep_log(name, log);
-            return match refusal {
-                PlainRefusal::NotEmpty => Outcome::BadLog,
-                PlainRefusal::Failed => Outcome::LogFault,
-                PlainRefusal::NoMemory => Outcome::NoMemory,
-            };
+            return outcome;
         }
     };
     let outcome = over_link(alloc, &mut store, world);
-    world.keep_log(name, store.disk());
+    world.keep_log(name, store.into_log().disk());
     outcome
 }
 
@@ -125,8 +183,8 @@ fn pipe_log(words: &Vec<String>) -> Option<&str>
 
 /// Runs the program on its words, and gives its exit status.
 ///
-/// `pipe LOG` opens the log, takes one link at standard input and output, and reads, answers and logs one request after
-/// another, to the end frame, the refused frame or the end of the input. Any other words are no command. Whatever the
+/// `pipe LOG` opens the log and reads its records, takes one link at standard input and output, and reads, answers and logs one request
+/// after another on top of these records, to the end frame, the refused frame or the end of the input. Any other words are no command. Whatever the
 /// status, the world keeps the log and the link that it gave.
 ///
 /// | status | comes |
@@ -137,7 +195,7 @@ fn pipe_log(words: &Vec<String>) -> Option<&str>
 /// | 4 | only where the count of the log rose |
 /// | 5 | memory was refused |
 /// | 6 | the input has a refused frame, and all before it is answered and logged |
-/// | 7 | exactly where the log was read and is not empty; it is as it was, and no link is taken |
+/// | 7 | exactly where the log was read and is no text of records; the warning has its first bad byte, it is as it was, and no link is taken |
 /// | 8 | only where the world's count of faults rose; no link is taken |
 ///
 /// Whatever the status, nothing more of the link is read after the end frame, a refused frame, the end of the input or a
@@ -151,7 +209,7 @@ pub fn run<W: World>(alloc: Global, words: &Vec<String>, world: &mut W) -> u8
     ensures keeps { is_pipe (map string_bytes words.now.items) ≡ true → Keeps (W.state world.old) (W.state world.new) (log_name (map string_bytes words.now.items)) }
     ensures cannot_open { result ≡ 8 → CannotOpen (W.state world.old) (W.state world.new) (log_name (map string_bytes words.now.items)) (W.faults world.old) (W.faults world.new) }
     ensures bad_log { result ≡ 7 → BadLog (W.state world.old) (W.state world.new) (log_name (map string_bytes words.now.items)) }
-    ensures good_log { result ≢ 7 → result ≢ 4 → EmptyLog (W.state world.old) (W.state world.new) (log_name (map string_bytes words.now.items)) }
+    ensures good_log { result ≢ 7 → result ≢ 4 → result ≢ 5 → GoodLog (W.state world.old) (W.state world.new) (log_name (map string_bytes words.now.items)) }
     ensures log_fault { result ≡ 4 → LogFaulted (W.state world.old) (W.state world.new) (log_name (map string_bytes words.now.items)) }
     ensures read_fault { result ≡ 2 → ReadFaulted (W.state world.old) (W.state world.new) }
     ensures write_fault { result ≡ 3 → WriteFaulted (W.state world.old) (W.state world.new) }
@@ -159,8 +217,8 @@ pub fn run<W: World>(alloc: Global, words: &Vec<String>, world: &mut W) -> u8
     ensures stopped { (fault : Fault) → result ≡ status_of_fault fault
         → Unlinked fault (W.state world.old) (W.state world.new) (log_name (map string_bytes words.now.items))
         ⊎ StoppedRun fault (W.state world.old) (W.state world.new) (log_name (map string_bytes words.now.items)) }
-    ensures front { (fault : Fault) → result ≡ status_of_fault fault → NoLink (W.state world.old) (W.state world.new) ⊎ FrontRun (W.state world.old) (W.state world.new) }
-    ensures reads { ReadsOnlyWhatIsDue W.In.reads W.In.taken W.In.left W.In.faults (W.next_source world.old) (W.kept_source world.new) (W.state world.old) (W.state world.new) }
+    ensures front { (fault : Fault) → result ≡ status_of_fault fault → NoLink (W.state world.old) (W.state world.new) ⊎ FrontRun (W.state world.old) (W.state world.new) (log_name (map string_bytes words.now.items)) }
+    ensures reads { RunReads W.In.reads W.In.taken W.In.left W.In.faults (W.next_source world.old) (W.kept_source world.new) (W.state world.old) (W.state world.new) (log_name (map string_bytes words.now.items)) }
     ensures said { (W.state world.new).said ≡ (W.state world.old).said }
     ensures print_faults { W.print_faults world.new ≡ W.print_faults world.old }
     ensures warned { Warned result (W.state world.old) (W.state world.new) }

@@ -1,6 +1,3 @@
-pub mod Growth
-pub mod Plains
-pub mod Gets
 pub mod Keys
 pub mod Lasts
 pub mod Shelving

@@ -1,6 +1,3 @@
-pub mod Contents
-pub mod Plain
-pub mod Inside
 pub mod Finding
 pub mod Shelves
 pub mod Openings

@@ -5,11 +5,9 @@
 //! straight into the caller's room. It answers as the one-thread store over lists does.
 //! [`StoreAsk`] and [`StoreOut`] are the operations of the store and what they come to, and [`StoreLaw`] is the law of a port that
 //! serves them. [`StoreEngine`] serves such a port: each operation is answered in its own call, and what came with it goes back.
-//! [`PlainStore`] keeps its records in memory in the order of their puts, appends each to a disk as one entry of a log
-//! text, and finds a key by scanning from the newest record.
 //! The layer above may rely on exact answers, on one append for each record, and on a refused put changing nothing but,
 //! where the disk failed, the end of the disk.
-//! Not promised: that a get of the plain one is fast.
+//! Not promised: of a value that a disk which does not tell its bytes gives back, anything but its length; and that memory is found.
 #![tactic(auto)]
 
 mod answer;
@@ -19,14 +17,12 @@ mod base;
 mod desk;
 mod drafting;
 mod engine;
-mod entry;
 mod index;
 mod law;
 mod marks;
 mod op;
 mod opening;
 mod out;
-mod plain;
 mod records;
 mod shelf;
 mod store_core;
@@ -42,6 +38,5 @@ pub use engine::StoreEngine;
 pub use law::StoreLaw;
 pub use op::StoreOp;
 pub use out::StoreOut;
-pub use plain::{PlainPut, PlainRefusal, PlainStore};
 pub use store_core::StoreCore;
 pub use told::StoreTold;

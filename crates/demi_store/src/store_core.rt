@@ -180,6 +180,7 @@ impl<D: Disk> StoreCore<D> {
     pub fn get(&mut self, place: Place, key: &Key, room: &mut [u8]) -> (StoreAnswer, u32)
         requires room { length room.old ≡ 65536 }
         ensures got { GotIs D.bytes D.faults self.old.log self.old.fault self.new.log self.new.fault self.old.records place.0 key.now.items room.new result.0 result.1 }
+        ensures size { result.1 ≤ 65536 }
         ensures same { self.new ≡ record self.old { log = self.new.log; fault = self.new.fault } }
         ensures log { self.new.log ≡ record self.old.log { disk = self.new.log.disk } }
         ensures bytes { D.bytes self.new.log.disk ≡ D.bytes self.old.log.disk }

@@ -13,6 +13,7 @@ pub struct Setup<'a> {
     pub failing_reads: &'a [u64],
     pub failing_writes: &'a [u64],
     pub failing_appends: &'a [u64],
+    pub failing_looks: &'a [u64],
 }
 
 // What it left.
@@ -34,6 +35,7 @@ pub fn on_an_empty_log(input: &[u8]) -> Setup<'_> {
         failing_reads: &[],
         failing_writes: &[],
         failing_appends: &[],
+        failing_looks: &[],
     }
 }
 
@@ -59,7 +61,8 @@ fn world_of(alloc: Global, setup: &Setup) -> Result<MemWorld, Fail> {
     let mut links = Vec::new(alloc);
     links.push((source, sink))?;
     let appends = setup.failing_appends.to_vec(alloc)?;
-    let disk = MemDisk::make(alloc, setup.old_log, 1 << 17, appends)?;
+    let mut disk = MemDisk::make(alloc, setup.old_log, 1 << 17, appends)?;
+    disk.fail_reads(setup.failing_looks.to_vec(alloc)?);
     let mut logs = Vec::new(alloc);
     logs.push(("L".to_string(alloc)?, disk))?;
     Ok(MemWorld::make(alloc, links, logs, 100, Vec::new(alloc))?)

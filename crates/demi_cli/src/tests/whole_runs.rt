@@ -1,5 +1,5 @@
 // Puts from bytes to bytes, and runs that take no link.
-use super::in_memory::{PUTS_AND_GETS, Setup, THEIR_LOG, on_an_empty_log, run_of};
+use super::in_memory::{PUTS_AND_GETS, Setup, on_an_empty_log, run_of};
 use std::alloc::Global;
 use std::test::Fail;
 
@@ -158,17 +158,5 @@ fn a_log_that_cannot_be_had_takes_no_link(rt: HostRuntime) -> Result<(), Fail> {
     assert_eq!(rt; left.status, 8);
     assert_eq!(rt; left.warned.as_slice(), b"demi: cannot open".as_slice());
     assert_eq!(rt; left.rest, 36);
-    let used = Setup {
-        old_log: THEIR_LOG,
-        ..on_an_empty_log(PUTS_AND_GETS)
-    };
-    let left = run_of(rt.alloc(), &["pipe", "L"], &used)?;
-    assert_eq!(rt; left.status, 7);
-    assert_eq!(rt;
-        left.warned.as_slice(),
-        b"demi: bad log at byte 0".as_slice()
-    );
-    assert_eq!(rt; left.rest, 36);
-    assert_eq!(rt; left.log.as_slice(), THEIR_LOG);
     Ok(())
 }

@@ -1,9 +1,11 @@
-use Rattle.std.proofs.Common.{ap, refl}
+use Rattle.std.proofs.Common.{ap, map}
+use Rattle.std.specs.Prelude.{string_bytes}
+use Rattle.demi_cli.specs.Outcome.{log_name}
 use Rattle.demi_cli.specs.declared.outcome.Outcome.TheVariants as outcome
 use Rattle.demi_core.specs.World.{WorldState}
 use Rattle.demi_cli.proofs.Clauses as clauses
 use Rattle.demi_cli.proofs.Fronts.{front}
-use Rattle.demi_cli.proofs.Readings.{only_between, same_still}
+use Rattle.demi_cli.proofs.Readings.{reported_reads}
 use Rattle.demi_cli.proofs.running.run.Goals as goal
 
 pub returns-in_default-clause-warned : goal.returns-in_default-clause-warned
@@ -59,8 +61,9 @@ pub returns-clause-reads : goal.returns-clause-reads
 returns-clause-reads g c =
     let state = g.W.World.state in
     let same = clauses.same_but c.pipe-outcome.result (state c.pipe-outcome.new.world) (state c.report-2.new.world) c.report-2.ensures.warned in
-    only_between g.W.In.Source.reads g.W.In.Source.taken g.W.In.Source.left g.W.In.Source.faults
-    (g.W.World.next_source c.args.world.now) (g.W.World.next_source c.args.world.now) (g.W.World.kept_source c.pipe-outcome.new.world) (g.W.World.kept_source c.report-2.new.world)
-    (state c.args.world.now) (state c.args.world.now) (state c.pipe-outcome.new.world) (state c.report-2.new.world)
-    c.pipe-outcome.ensures.reads (same_still (g.W.World.next_source c.args.world.now)) c.report-2.ensures.kept_sources
-    refl (ap (λ (w : WorldState). w.given_links) same) (ap (λ (w : WorldState). w.kept_link 0) same)
+    let reads = rw c.in-Some.ensures.1 at c.pipe-outcome.ensures.reads in
+    reported_reads g.W.In.Source.reads g.W.In.Source.taken g.W.In.Source.left g.W.In.Source.faults
+    (g.W.World.next_source c.args.world.now) (g.W.World.kept_source c.pipe-outcome.new.world) (g.W.World.kept_source c.report-2.new.world)
+    (state c.args.world.now) (state c.pipe-outcome.new.world) (state c.report-2.new.world) (log_name (map string_bytes c.args.words.now.items))
+    reads c.report-2.ensures.kept_sources
+    (ap (λ (w : WorldState). w.given_links) same) (ap (λ (w : WorldState). w.kept_link 0) same) (ap (λ (w : WorldState). w.given_logs) same) (ap (λ (w : WorldState). w.kept_log (log_name (map string_bytes c.args.words.now.items))) same)

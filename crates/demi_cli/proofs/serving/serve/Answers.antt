@@ -4,15 +4,16 @@ use Rattle.std.specs.Prelude.{Err}
 use Rattle.demi_spec.specs.Request.{Put, Get, End}
 use Rattle.demi_spec.specs.Input.{Request_of, Refused_end}
 use Rattle.demi_frame.specs.Decoding.{Decoding}
-use Rattle.demi_store.proofs.Growth.{append-none}
+use Rattle.demi_cli.proofs.Growth.{append-none}
+use Rattle.demi_logq.specs.Items.{tells}
 use Rattle.demi_frame.specs.Decoding as frame
 use Rattle.demi_spec.specs.Input as input
-use Rattle.demi_store.specs.Contents.{contents}
-use Rattle.demi_cli.proofs.SoFars.{so_answered, so_more, so_start}
+use Rattle.demi_cli.specs.Contents.{contents}
+use Rattle.demi_cli.proofs.SoFars.{so_answered, so_more, so_start, tells_grown}
 use Rattle.demi_cli.proofs.Readings.{reading_start, reading_more, reading_answered, only_so_far, only_and_last, gave_none, broke_says, end_says}
 use Rattle.demi_cli.proofs.Wholes.{whole_none, ended_refused}
-use Rattle.demi_cli.proofs.Stops.{rose_since, stopped_read, refused_stopped, bye_stopped, stopped_get, stopped_put}
-use Rattle.demi_cli.proofs.Turns.{refused_whole, bye_whole, get_answered, so_none, so_failed, nothing_left, handed_put, handed_get}
+use Rattle.demi_cli.proofs.Stops.{rose_since, stopped_read, refused_stopped, bye_stopped, stopped_ask}
+use Rattle.demi_cli.proofs.Turns.{refused_whole, bye_whole, so_none, so_failed, nothing_left, handed_put, handed_get}
 use Rattle.demi_cli.proofs.serving.serve.Goals as goal
 
 pub returns-in-Some-clause-whole : goal.returns-in-Some-clause-whole
@@ -23,11 +24,11 @@ returns-in-Some-clause-whole g c =
     let i = c.serving.invariant in
     let more = c.in-More.ensures.consumed i.stop in
     let e = c.in-Ok.ensures in
-    let s = so_none (left c.args.source.now) (left c.serving.source) (left c.read.new.self) (taken c.args.source.now) (taken c.serving.source) (taken c.read.new.self) c.in-Ok.given d.rest c.read.new.room _ _ _ _ _ _
+    let s = so_none _ _ (left c.args.source.now) (left c.serving.source) (left c.read.new.self) (taken c.args.source.now) (taken c.serving.source) (taken c.read.new.self) c.in-Ok.given d.rest c.read.new.room _ _ _ _ _ _
     i.so e.bytes e.taken c.if-given-eq0.true in
     let code : Some c.in-Some.code ≡ frame.finish_of c.next.new.self c.next.new.self.stop = c.in-Some.ensures.code in
     let code_here : Some c.in-Some.code ≡ frame.code_of (input.front true d.rest) = code ∙ ap (frame.finish_of c.next.new.self) more.3 ∙ ap (λ (t : List ℕ). frame.code_of (input.front true t)) more.1 in
-    refused_whole c.refuse.result _ _ _ _ d.rest (g.O.Sink.written c.serving.sink) c.serving.count c.serving.store.records true c.in-Some.code
+    refused_whole c.refuse.result _ _ _ _ _ _ d.rest (g.O.Sink.written c.serving.sink) c.serving.count c.serving.store.records true c.in-Some.code
     s (ended_refused c.in-Some.code d.rest more.0 code_here)
     (λ _. nothing_left (left c.serving.source) (left c.read.new.self) c.in-Ok.given c.read.new.room e.end c.if-given-eq0.true e.bytes) c.refuse.ensures.all
 
@@ -39,11 +40,11 @@ returns-in-Some-clause-stopped g c =
     let i = c.serving.invariant in
     let more = c.in-More.ensures.consumed i.stop in
     let e = c.in-Ok.ensures in
-    let s = so_none (left c.args.source.now) (left c.serving.source) (left c.read.new.self) (taken c.args.source.now) (taken c.serving.source) (taken c.read.new.self) c.in-Ok.given d.rest c.read.new.room _ _ _ _ _ _
+    let s = so_none _ _ (left c.args.source.now) (left c.serving.source) (left c.read.new.self) (taken c.args.source.now) (taken c.serving.source) (taken c.read.new.self) c.in-Ok.given d.rest c.read.new.room _ _ _ _ _ _
     i.so e.bytes e.taken c.if-given-eq0.true in
     let code : Some c.in-Some.code ≡ frame.finish_of c.next.new.self c.next.new.self.stop = c.in-Some.ensures.code in
     let code_here : Some c.in-Some.code ≡ frame.code_of (input.front true d.rest) = code ∙ ap (frame.finish_of c.next.new.self) more.3 ∙ ap (λ (t : List ℕ). frame.code_of (input.front true t)) more.1 in
-    refused_stopped c.refuse.result _ _ _ _ d.rest (g.O.Sink.written c.serving.sink) c.serving.count c.serving.store.records true c.in-Some.code (g.O.Sink.faults c.serving.sink)
+    refused_stopped c.refuse.result _ _ _ _ _ _ d.rest (g.O.Sink.written c.serving.sink) c.serving.count c.serving.store.records true c.in-Some.code (g.O.Sink.faults c.serving.sink)
     s (ended_refused c.in-Some.code d.rest more.0 code_here)
     (λ _. nothing_left (left c.serving.source) (left c.read.new.self) c.in-Ok.given c.read.new.room e.end c.if-given-eq0.true e.bytes) c.refuse.ensures.front i.later_sink c.refuse.ensures.rose
 
@@ -55,11 +56,11 @@ returns-in-None-clause-whole g c =
     let i = c.serving.invariant in
     let more = c.in-More.ensures.consumed i.stop in
     let e = c.in-Ok.ensures in
-    let s = so_none (left c.args.source.now) (left c.serving.source) (left c.read.new.self) (taken c.args.source.now) (taken c.serving.source) (taken c.read.new.self) c.in-Ok.given d.rest c.read.new.room _ _ _ _ _ _
+    let s = so_none _ _ (left c.args.source.now) (left c.serving.source) (left c.read.new.self) (taken c.args.source.now) (taken c.serving.source) (taken c.read.new.self) c.in-Ok.given d.rest c.read.new.room _ _ _ _ _ _
     i.so e.bytes e.taken c.if-given-eq0.true in
     let code : None ≡ frame.finish_of c.next.new.self c.next.new.self.stop = c.in-None.ensures.code in
     let code_here : None ≡ frame.code_of (input.front true d.rest) = code ∙ ap (frame.finish_of c.next.new.self) more.3 ∙ ap (λ (t : List ℕ). frame.code_of (input.front true t)) more.1 in
-    whole_none _ _ _ _ d.rest c.serving.count c.serving.store.records s more.0 code_here
+    whole_none _ _ _ _ _ _ d.rest c.serving.count c.serving.store.records s more.0 code_here
     (nothing_left (left c.serving.source) (left c.read.new.self) c.in-Ok.given c.read.new.room e.end c.if-given-eq0.true e.bytes)
 
 pub returns-in-Err-clause-stopped : goal.returns-in-Err-clause-stopped
@@ -67,20 +68,24 @@ returns-in-Err-clause-stopped g c =
     let i = c.serving.invariant in
     let e = c.in-Err.ensures in
     let h = handed_put c.serving.decoder c.next.new.self c.key.result.now c.value.result.now c.in-Put.ensures.next i.stop (c.in-Put.ensures.consumed i.stop) c.key.ensures c.value.ensures in
-    stopped_put c.in-Err.fault _ _ _ _ c.serving.decoder.rest c.next.new.self.rest c.key.result.now c.value.result.now (g.O.Sink.written c.serving.sink) (contents (g.D.Disk.bytes c.serving.store.disk) (g.D.Disk.held c.serving.store.disk))
-    c.serving.count c.serving.store.records (g.O.Sink.faults c.serving.sink) (g.D.Disk.faults c.serving.store.disk)
-    i.so h.takes h.on e.broke i.later_sink i.later_disk (λ is. e.write_rose (ap Err is)) (λ is. e.log_rose (ap Err is))
+    stopped_ask c.in-Err.fault _ _ _ _ _ _ _ c.serving.decoder.rest c.next.new.self.rest (Put c.key.result.now c.value.result.now) (g.O.Sink.written c.serving.sink)
+    (contents (g.D.Disk.bytes c.serving.store.log.disk) (g.D.Disk.held c.serving.store.log.disk))
+    c.serving.count c.serving.store.records (g.O.Sink.faults c.serving.sink) (g.D.Disk.faults c.serving.store.log.disk)
+    i.so h.takes h.on i.told_is e.broke i.later_sink i.later_disk (λ is. e.write_rose (ap Err is)) (λ is. e.log_rose (ap Err is))
 
 pub serving-preserved-in-Put : goal.serving-preserved-in-Put
 serving-preserved-in-Put g c =
     let i = c.serving.invariant in
     let e = c.in_default-answer_put.ensures in
     let h = handed_put c.serving.decoder c.next.new.self c.key.result.now c.value.result.now c.in-Put.ensures.next i.stop (c.in-Put.ensures.consumed i.stop) c.key.ensures c.value.ensures in
-    let so = so_answered _ _ _ _ c.serving.decoder.rest c.next.new.self.rest _ _ _ _ _ _ c.serving.count c.serving.store.records _ (Put c.key.result.now c.value.result.now) i.so h.takes h.on e.done in
+    let so = so_answered _ _ _ _ _ _ _ c.serving.decoder.rest c.next.new.self.rest _ _ _ _ _ _ c.serving.count c.serving.store.records _ (Put c.key.result.now c.value.result.now) i.so h.takes h.on i.told_is e.done in
     record {
       so = so.0;
-      reading = reading_answered g.I.Source.reads (length c.args.room.now) c.args.source.now c.serving.source i.so.requests so.0.requests (Put c.key.result.now c.value.result.now)
-          c.serving.decoder.rest c.next.new.self.rest i.reading h.takes so.1;
+      reading = reading_answered (tells (g.D.Disk.bytes c.args.store.now.log.disk)) c.args.store.now.records g.I.Source.reads (length c.args.room.now) c.args.source.now c.serving.source i.so.requests so.0.requests (Put c.key.result.now c.value.result.now)
+          c.serving.decoder.rest c.next.new.self.rest i.so.text so.0.text e.done.reply i.reading h.takes so.1 so.2;
+      told_is = tells_grown _ _ _ e.done.logs ∙ i.told_is;
+      ready = e.ready;
+      values = i.values;
       room = i.room;
       stop = h.stop;
       fits = omega (arith, h.shorter, i.fits);
@@ -95,54 +100,58 @@ returns-in-Err-answer_get-clause-stopped g c =
     let i = c.serving.invariant in
     let e = c.in-Err-answer_get.ensures in
     let h = handed_get c.serving.decoder c.next.new.self c.key-in-Get.result.now c.in-Get.ensures.next i.stop (c.in-Get.ensures.consumed i.stop) c.key-in-Get.ensures in
-    stopped_get c.in-Err-answer_get.fault _ _ _ _ c.serving.decoder.rest c.next.new.self.rest c.key-in-Get.result.now (g.O.Sink.written c.serving.sink)
-    c.serving.count c.serving.store.records (g.O.Sink.faults c.serving.sink) i.so h.takes h.on e.write e.broke i.later_sink e.rose
+    stopped_ask c.in-Err-answer_get.fault _ _ _ _ _ _ _ c.serving.decoder.rest c.next.new.self.rest (Get c.key-in-Get.result.now) (g.O.Sink.written c.serving.sink)
+    (contents (g.D.Disk.bytes c.serving.store.log.disk) (g.D.Disk.held c.serving.store.log.disk))
+    c.serving.count c.serving.store.records (g.O.Sink.faults c.serving.sink) (g.D.Disk.faults c.serving.store.log.disk)
+    i.so h.takes h.on i.told_is e.broke i.later_sink i.later_disk (λ is. e.write_rose (ap Err is)) (λ is. e.log_rose (ap Err is))
 
 pub serving-preserved : goal.serving-preserved
 serving-preserved g c =
     let i = c.serving.invariant in
     let e = c.in_default-answer_get.ensures in
     let h = handed_get c.serving.decoder c.next.new.self c.key-in-Get.result.now c.in-Get.ensures.next i.stop (c.in-Get.ensures.consumed i.stop) c.key-in-Get.ensures in
-    let so = so_answered _ _ _ _ c.serving.decoder.rest c.next.new.self.rest _ _ _ _ _ _ c.serving.count c.serving.store.records c.serving.store.records (Get c.key-in-Get.result.now) i.so h.takes h.on
-    (get_answered c.serving.store.records c.serving.count c.key-in-Get.result.now (g.O.Sink.written c.serving.sink) _ _ e.done) in
+    let so = so_answered _ _ _ _ _ _ _ c.serving.decoder.rest c.next.new.self.rest _ _ _ _ _ _ c.serving.count c.serving.store.records _ (Get c.key-in-Get.result.now) i.so h.takes h.on i.told_is e.done in
     record {
       so = so.0;
-      reading = reading_answered g.I.Source.reads (length c.args.room.now) c.args.source.now c.serving.source i.so.requests so.0.requests (Get c.key-in-Get.result.now)
-          c.serving.decoder.rest c.next.new.self.rest i.reading h.takes so.1;
+      reading = reading_answered (tells (g.D.Disk.bytes c.args.store.now.log.disk)) c.args.store.now.records g.I.Source.reads (length c.args.room.now) c.args.source.now c.serving.source i.so.requests so.0.requests (Get c.key-in-Get.result.now)
+          c.serving.decoder.rest c.next.new.self.rest i.so.text so.0.text e.done.reply i.reading h.takes so.1 so.2;
+      told_is = tells_grown _ _ _ e.done.logs ∙ i.told_is;
+      ready = e.ready;
+      values = c.answer_get.auto.room ∙ i.values;
       room = i.room;
       stop = h.stop;
       fits = omega (arith, h.shorter, i.fits);
       most = i.most;
       later_source = i.later_source;
-      later_sink = omega (arith, i.later_sink, e.later);
-      later_disk = i.later_disk;
+      later_sink = omega (arith, i.later_sink, e.later_sink);
+      later_disk = omega (arith, i.later_disk, e.later_disk);
     }
 
 pub returns-in-End-clause-whole : goal.returns-in-End-clause-whole
 returns-in-End-clause-whole g c =
     let i = c.serving.invariant in
     let takes = (c.in-End.ensures.consumed i.stop).0 in
-    bye_whole c.bye.result _ _ _ _ c.serving.decoder.rest c.next.new.self.rest (g.O.Sink.written c.serving.sink) c.serving.count c.serving.store.records i.so takes c.bye.ensures.all
+    bye_whole c.bye.result _ _ _ _ _ _ c.serving.decoder.rest c.next.new.self.rest (g.O.Sink.written c.serving.sink) c.serving.count c.serving.store.records i.so takes c.bye.ensures.all
 
 pub returns-in-End-clause-stopped : goal.returns-in-End-clause-stopped
 returns-in-End-clause-stopped g c =
     let i = c.serving.invariant in
     let takes = (c.in-End.ensures.consumed i.stop).0 in
-    bye_stopped c.bye.result _ _ _ _ c.serving.decoder.rest c.next.new.self.rest (g.O.Sink.written c.serving.sink) c.serving.count c.serving.store.records (g.O.Sink.faults c.serving.sink)
+    bye_stopped c.bye.result _ _ _ _ _ _ c.serving.decoder.rest c.next.new.self.rest (g.O.Sink.written c.serving.sink) c.serving.count c.serving.store.records (g.O.Sink.faults c.serving.sink)
     i.so takes c.bye.ensures.front i.later_sink c.bye.ensures.rose
 
 pub returns-in-Refused-clause-whole : goal.returns-in-Refused-clause-whole
 returns-in-Refused-clause-whole g c =
     let i = c.serving.invariant in
     let stop = c.in-Refused.ensures.consumed i.stop in
-    refused_whole c.refuse-in-Refused.result _ _ _ _ c.serving.decoder.rest (g.O.Sink.written c.serving.sink) c.serving.count c.serving.store.records false c.in-Refused.code
+    refused_whole c.refuse-in-Refused.result _ _ _ _ _ _ c.serving.decoder.rest (g.O.Sink.written c.serving.sink) c.serving.count c.serving.store.records false c.in-Refused.code
     i.so stop.0 (λ e. absurd (cc)) c.refuse-in-Refused.ensures.all
 
 pub returns-in-Refused-clause-stopped : goal.returns-in-Refused-clause-stopped
 returns-in-Refused-clause-stopped g c =
     let i = c.serving.invariant in
     let stop = c.in-Refused.ensures.consumed i.stop in
-    refused_stopped c.refuse-in-Refused.result _ _ _ _ c.serving.decoder.rest (g.O.Sink.written c.serving.sink) c.serving.count c.serving.store.records false c.in-Refused.code (g.O.Sink.faults c.serving.sink)
+    refused_stopped c.refuse-in-Refused.result _ _ _ _ _ _ c.serving.decoder.rest (g.O.Sink.written c.serving.sink) c.serving.count c.serving.store.records false c.in-Refused.code (g.O.Sink.faults c.serving.sink)
     i.so stop.0 (λ e. absurd (cc)) c.refuse-in-Refused.ensures.front i.later_sink c.refuse-in-Refused.ensures.rose
 
 pub returns-in_default-clause-stopped : goal.returns-in_default-clause-stopped
@@ -152,17 +161,20 @@ returns-in_default-clause-stopped g c =
     let i = c.serving.invariant in
     let e = c.in_default.ensures in
     let more = c.in-More.ensures.consumed i.stop in
-    let s = so_failed (left c.args.source.now) (left c.serving.source) (left c.read.new.self) (taken c.args.source.now) (taken c.serving.source) (taken c.read.new.self) c.serving.decoder.rest _ _ _ _ _ _ i.so e.failed_left e.failed_taken in
-    stopped_read _ _ _ _ c.serving.decoder.rest c.serving.count c.serving.store.records s more.0 (rose_since _ _ _ i.later_source e.cause.failed)
+    let s = so_failed _ _ (left c.args.source.now) (left c.serving.source) (left c.read.new.self) (taken c.args.source.now) (taken c.serving.source) (taken c.read.new.self) c.serving.decoder.rest _ _ _ _ _ _ i.so e.failed_left e.failed_taken in
+    stopped_read _ _ _ _ _ _ c.serving.decoder.rest c.serving.count c.serving.store.records s more.0 (rose_since _ _ _ i.later_source e.cause.failed)
 
 pub serving-init : goal.serving-init
 serving-init g c =
     let empty : c.args.decoder.now.rest ≡ [] = ap (λ (d : Decoding). d.rest) c.requires.fresh in
-    let so = so_start (g.I.Source.left c.args.source.now) (g.O.Sink.written c.args.sink.now) (contents (g.D.Disk.bytes c.args.store.now.disk) (g.D.Disk.held c.args.store.now.disk))
-    (g.I.Source.taken c.args.source.now) c.args.decoder.now.rest c.args.store.now.records empty c.requires.empty in
+    let so = so_start (tells (g.D.Disk.bytes c.args.store.now.log.disk)) c.args.store.now.records (g.I.Source.left c.args.source.now) (g.O.Sink.written c.args.sink.now) (contents (g.D.Disk.bytes c.args.store.now.log.disk) (g.D.Disk.held c.args.store.now.log.disk))
+    (g.I.Source.taken c.args.source.now) c.args.decoder.now.rest empty in
     record {
       so = so.0;
-      reading = reading_start g.I.Source.reads (length c.args.room.now) c.args.source.now so.0.requests c.args.decoder.now.rest _ so.1 empty;
+      reading = reading_start (tells (g.D.Disk.bytes c.args.store.now.log.disk)) c.args.store.now.records g.I.Source.reads (length c.args.room.now) c.args.source.now so.0.requests c.args.decoder.now.rest _ so.1 empty;
+      told_is = refl;
+      ready = c.requires.ready;
+      values = c.requires.values;
       room = refl;
       stop = ap (λ (d : Decoding). d.stop) c.requires.fresh;
       fits = omega (arith, ap length empty);
@@ -190,15 +202,18 @@ serving-preserved-in-More g c =
     let all : c.feed.result ≡ length piece = c.feed.ensures.whole more.2 small in
     let is : c.feed.new.self.rest ≡ d.rest ++ piece = ap (λ (x : Decoding). x.rest) fed ∙ ap (λ (t : List ℕ). t ++ take c.feed.result piece) more.1
     ∙ ap (λ (t : List ℕ). d.rest ++ t) (take_all c.feed.result piece (omega arith)) in
-    let so = so_more (left c.args.source.now) (left c.serving.source) (left c.read.new.self) (taken c.args.source.now) (taken c.serving.source) (taken c.read.new.self)
+    let so = so_more _ _ (left c.args.source.now) (left c.serving.source) (left c.read.new.self) (taken c.args.source.now) (taken c.serving.source) (taken c.read.new.self)
     d.rest piece c.feed.new.self.rest _ _ _ _ _ _
     i.so e.bytes (e.taken ∙ ap (λ n. taken c.serving.source + n) (sym long)) is in
     let call = subst (λ n. g.I.Source.reads c.serving.source n (Some piece) c.read.new.self) i.room e.call in
     let some : 0 < length piece = omega (arith, c.if-given-eq0.false) in
     record {
       so = so.0;
-      reading = reading_more g.I.Source.reads (length c.args.room.now) c.args.source.now c.serving.source c.read.new.self i.so.requests so.0.requests d.rest piece c.feed.new.self.rest
-          i.reading i.so.go_on more.0 call some is so.1;
+      reading = reading_more (tells (g.D.Disk.bytes c.args.store.now.log.disk)) c.args.store.now.records g.I.Source.reads (length c.args.room.now) c.args.source.now c.serving.source c.read.new.self i.so.requests so.0.requests d.rest piece c.feed.new.self.rest i.so.text so.0.text
+          i.reading i.so.said i.so.go_on more.0 call some is so.1 so.2;
+      told_is = i.told_is;
+      ready = i.ready;
+      values = i.values;
       room = same_room;
       stop = ap (λ (x : Decoding). x.stop) fed ∙ more.3;
       fits = omega (arith, i.fits, ap length is, length-append d.rest piece, e.taken);
@@ -216,9 +231,9 @@ returns-in_default-clause-reads g c =
     let e = c.in_default.ensures in
     let more = c.in-More.ensures.consumed i.stop in
     let call = subst (λ n. g.I.Source.reads c.serving.source n None c.read.new.self) i.room e.call in
-    only_and_last g.I.Source.reads (length c.args.room.now) c.args.source.now c.serving.source c.read.new.self _ _ i.so.requests c.serving.decoder.rest []
+    only_and_last (tells (g.D.Disk.bytes c.args.store.now.log.disk)) c.args.store.now.records g.I.Source.reads (length c.args.room.now) c.args.source.now c.serving.source c.read.new.self _ _ i.so.requests c.serving.decoder.rest i.so.text []
     (left c.serving.source) (taken c.serving.source) (g.O.Sink.written c.serving.sink) None
-    i.reading i.so.go_on more.0 i.so.left i.so.taken call
+    i.reading i.so.said i.so.go_on more.0 i.so.left i.so.taken call
     (gave_none (left c.serving.source) (left c.read.new.self) e.failed_left) (omega (arith, e.failed_taken)) i.so.says (append-none (g.O.Sink.written c.serving.sink))
 
 pub returns-in-Some-clause-reads : goal.returns-in-Some-clause-reads
@@ -235,9 +250,9 @@ returns-in-Some-clause-reads g c =
     let call = subst (λ n. g.I.Source.reads c.serving.source n (Some piece) c.read.new.self) i.room e.call in
     let said = end_says _ _ c.refuse.result [] c.serving.count (Refused_end c.in-Some.code) (g.O.Sink.written c.serving.sink) (g.O.Sink.written c.refuse.new.sink)
     c.refuse.ensures.all c.refuse.ensures.front in
-    only_and_last g.I.Source.reads (length c.args.room.now) c.args.source.now c.serving.source c.read.new.self _ _ i.so.requests c.serving.decoder.rest said.0
+    only_and_last (tells (g.D.Disk.bytes c.args.store.now.log.disk)) c.args.store.now.records g.I.Source.reads (length c.args.room.now) c.args.source.now c.serving.source c.read.new.self _ _ i.so.requests c.serving.decoder.rest i.so.text said.0
     (left c.serving.source) (taken c.serving.source) (g.O.Sink.written c.serving.sink) (Some piece)
-    i.reading i.so.go_on more.0 i.so.left i.so.taken call e.bytes (e.taken ∙ ap (λ n. taken c.serving.source + n) (sym long)) i.so.says said.1
+    i.reading i.so.said i.so.go_on more.0 i.so.left i.so.taken call e.bytes (e.taken ∙ ap (λ n. taken c.serving.source + n) (sym long)) i.so.says said.1
 
 pub returns-in-None-clause-reads : goal.returns-in-None-clause-reads
 returns-in-None-clause-reads g c =
@@ -251,32 +266,33 @@ returns-in-None-clause-reads g c =
     let within : given ≤ length c.read.new.room = e.within in
     let long : length piece ≡ given = omega (arith, length-take given c.read.new.room) in
     let call = subst (λ n. g.I.Source.reads c.serving.source n (Some piece) c.read.new.self) i.room e.call in
-    only_and_last g.I.Source.reads (length c.args.room.now) c.args.source.now c.serving.source c.read.new.self _ _ i.so.requests c.serving.decoder.rest []
+    only_and_last (tells (g.D.Disk.bytes c.args.store.now.log.disk)) c.args.store.now.records g.I.Source.reads (length c.args.room.now) c.args.source.now c.serving.source c.read.new.self _ _ i.so.requests c.serving.decoder.rest i.so.text []
     (left c.serving.source) (taken c.serving.source) (g.O.Sink.written c.serving.sink) (Some piece)
-    i.reading i.so.go_on more.0 i.so.left i.so.taken call e.bytes (e.taken ∙ ap (λ n. taken c.serving.source + n) (sym long)) i.so.says (append-none (g.O.Sink.written c.serving.sink))
+    i.reading i.so.said i.so.go_on more.0 i.so.left i.so.taken call e.bytes (e.taken ∙ ap (λ n. taken c.serving.source + n) (sym long)) i.so.says (append-none (g.O.Sink.written c.serving.sink))
 
 pub returns-in-Err-clause-reads : goal.returns-in-Err-clause-reads
 returns-in-Err-clause-reads g c =
     let i = c.serving.invariant in
     let e = c.in-Err.ensures in
-    let said = broke_says c.in-Err.fault c.serving.store.records c.serving.count _ (g.O.Sink.written c.serving.sink) (g.O.Sink.written c.answer_put.new.sink) _ _ e.broke in
-    only_so_far g.I.Source.reads (length c.args.room.now) c.args.source.now c.serving.source _ _ _ _ said.0 (g.O.Sink.written c.serving.sink) i.reading i.so.left i.so.taken i.so.says said.1
+    let said = broke_says c.in-Err.fault _ c.serving.store.records c.serving.count _ (g.O.Sink.written c.serving.sink) (g.O.Sink.written c.answer_put.new.sink) _ _ e.broke in
+    only_so_far (tells (g.D.Disk.bytes c.args.store.now.log.disk)) c.args.store.now.records g.I.Source.reads (length c.args.room.now) c.args.source.now c.serving.source _ _ _ _ said.0 (g.O.Sink.written c.serving.sink) i.reading i.so.left i.so.taken i.so.says said.1
 
 pub returns-in-Err-answer_get-clause-reads : goal.returns-in-Err-answer_get-clause-reads
 returns-in-Err-answer_get-clause-reads g c =
     let i = c.serving.invariant in
     let e = c.in-Err-answer_get.ensures in
-    only_so_far g.I.Source.reads (length c.args.room.now) c.args.source.now c.serving.source _ _ _ _ _ (g.O.Sink.written c.serving.sink) i.reading i.so.left i.so.taken i.so.says e.broke.2
+    let said = broke_says c.in-Err-answer_get.fault _ c.serving.store.records c.serving.count _ (g.O.Sink.written c.serving.sink) (g.O.Sink.written c.answer_get.new.sink) _ _ e.broke in
+    only_so_far (tells (g.D.Disk.bytes c.args.store.now.log.disk)) c.args.store.now.records g.I.Source.reads (length c.args.room.now) c.args.source.now c.serving.source _ _ _ _ said.0 (g.O.Sink.written c.serving.sink) i.reading i.so.left i.so.taken i.so.says said.1
 
 pub returns-in-End-clause-reads : goal.returns-in-End-clause-reads
 returns-in-End-clause-reads g c =
     let i = c.serving.invariant in
     let said = end_says _ _ c.bye.result [] c.serving.count (Request_of End) (g.O.Sink.written c.serving.sink) (g.O.Sink.written c.bye.new.sink) c.bye.ensures.all c.bye.ensures.front in
-    only_so_far g.I.Source.reads (length c.args.room.now) c.args.source.now c.serving.source _ _ _ _ said.0 (g.O.Sink.written c.serving.sink) i.reading i.so.left i.so.taken i.so.says said.1
+    only_so_far (tells (g.D.Disk.bytes c.args.store.now.log.disk)) c.args.store.now.records g.I.Source.reads (length c.args.room.now) c.args.source.now c.serving.source _ _ _ _ said.0 (g.O.Sink.written c.serving.sink) i.reading i.so.left i.so.taken i.so.says said.1
 
 pub returns-in-Refused-clause-reads : goal.returns-in-Refused-clause-reads
 returns-in-Refused-clause-reads g c =
     let i = c.serving.invariant in
     let said = end_says _ _ c.refuse-in-Refused.result [] c.serving.count (Refused_end c.in-Refused.code) (g.O.Sink.written c.serving.sink) (g.O.Sink.written c.refuse-in-Refused.new.sink)
     c.refuse-in-Refused.ensures.all c.refuse-in-Refused.ensures.front in
-    only_so_far g.I.Source.reads (length c.args.room.now) c.args.source.now c.serving.source _ _ _ _ said.0 (g.O.Sink.written c.serving.sink) i.reading i.so.left i.so.taken i.so.says said.1
+    only_so_far (tells (g.D.Disk.bytes c.args.store.now.log.disk)) c.args.store.now.records g.I.Source.reads (length c.args.room.now) c.args.source.now c.serving.source _ _ _ _ said.0 (g.O.Sink.written c.serving.sink) i.reading i.so.left i.so.taken i.so.says said.1

@@ -30,3 +30,6 @@ returns-in-Ok-clause-got g c =
       value_got (g.D.Disk.bytes c.args.self.now.log.disk) records c.args.key.now c.part.new.room c.in-Some-get.entry c.in-Ok.count (length c.args.room.now) (7 + length c.args.key.now) k.fits here c.requires.room refl
           (e.size (map payload records) k.holds) (e.part (map payload records) k.holds),
     )
+
+pub returns-in-Ok-clause-size : goal.returns-in-Ok-clause-size
+returns-in-Ok-clause-size g c = omega (arith, c.requires.room, c.in-Ok.ensures.size (map payload c.args.records.now.value) c.requires.kept.holds)
