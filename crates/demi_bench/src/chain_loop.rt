@@ -4,6 +4,7 @@ ghost use Rattle.std.specs.Prelude.{◌≡◌, ◌+◌, ◌<◌, ◌≤◌, [], 
 ghost use Rattle.std.specs.Thread.{IsSync};
 ghost use Rattle.demi_bench.specs.Asking.{IsFirst};
 ghost use Rattle.demi_bench.specs.Serving.{IsDone};
+ghost use Rattle.demi_sched.specs.Scanning.{IsWithin};
 
 use crate::doubler;
 use crate::doubler::{Doubler, TOKENS};
@@ -11,7 +12,7 @@ use crate::idling::Idling;
 use crate::port_loop::{close_unused, redeem, submit};
 use demi_device::Device;
 use demi_port::{DeviceSeat, Port, PortPass};
-use demi_port_core::Doubles;
+use demi_port_core::{Bits, Doubles, Mask};
 use std::alloc::Global;
 use std::io;
 use std::marker::{Brand, Model};
@@ -33,8 +34,8 @@ pub struct Load {
     pub idling: Idling,
 }
 
-// A port that one caller asks and one device serves. The vector is the one in which its pass was given.
-struct Way {
+/// A port that one caller asks and one device serves. The vector is the one in which its pass was given.
+pub(crate) struct Way {
     port: Port<Doubles>,
     pass: PortPass<Doubles>,
     device: Device<Doubler>,
@@ -68,8 +69,8 @@ fn close_one(
 }
 
 impl Way {
-    // A new port. `None` is want of memory.
-    fn open(alloc: Global) -> Option<Way> {
+    /// A new port. `None` is want of memory.
+    pub(crate) fn open(alloc: Global) -> Option<Way> {
         let Ok((port, mut passes, seat)) = Port::<Doubles>::make::<Brand>(alloc, TOKENS, 1) else {
             return None;
         };
@@ -91,7 +92,15 @@ impl Way {
         })
     }
 
-    fn close(self) {
+    /// Takes the waker bits of the mask.
+    pub(crate) fn scan(&mut self, mask: &Mask) -> Bits
+        ensures { IsWithin result.words mask.now.words }
+    {
+        self.port.scan(&mut self.pass, mask)
+    }
+
+    /// Closes the port.
+    pub(crate) fn close(self) {
         let Way {
             port,
             pass,

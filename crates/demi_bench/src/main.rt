@@ -1,12 +1,14 @@
 //! Claims and frees of the guarded heap, beside the same loop over a free list behind a mutex; operations through one port,
 //! from submit to redeem, beside the same through channels; a pop and a push of one memory queue, while items wait in others;
-//! how long a caller waits that asks one at a time; and links that are each served through three ports.
+//! how long a caller waits that asks one at a time; links that are each served through three ports; and rounds of a scheduler
+//! in which none is woken, beside the scans that they make.
 //!
 //! With no word it runs a small fixed case of each and prints counts alone. With a number of rounds it prints the rates of the
 //! first three, as in `demi_bench 2000000`. `demi_bench wait CALLERS OPERATIONS PAUSE` says how long an operation took after a
 //! pause of so many milliseconds, and `demi_bench chain LINKS REQUESTS SILENCE` how many requests the links served, after so
-//! many milliseconds in which all their threads slept, beside the same where threads only yield. A rate is one of this run and this machine: compare those of
-//! one line.
+//! many milliseconds in which all their threads slept, beside the same where threads only yield. `demi_bench round COROUTINES
+//! ROUNDS` says how long a round took, with at most 16 coroutines, and how long its scans alone. A rate is one of this run and
+//! this machine: compare those of one line.
 #![tactic(auto)]
 
 mod chain_loop;
@@ -19,10 +21,12 @@ mod list_loop;
 mod memq_loop;
 mod ping_loop;
 mod port_loop;
+mod round_loop;
 
 ghost use Rattle.std.specs.Prelude.{◌*◌, ◌≤◌};
 ghost use Rattle.demi_bench.specs.declared.doubler.TheConstants.{TOKENS};
 ghost use Rattle.demi_bench.specs.declared.port_loop.TheConstants.{IN_FLIGHT};
+ghost use Rattle.demi_bench.specs.declared.round_loop.TheConstants.{MOST};
 
 use crate::chain_loop::Load;
 use crate::doubler::TOKENS;
@@ -70,6 +74,7 @@ enum Asked {
     Rates(u32),
     Waits(Case),
     Chains(Case),
+    Rounds(u32, u32),
 }
 
 /// How many callers or links, how many operations or requests of each, and a time in milliseconds.
@@ -94,11 +99,13 @@ fn read_words(rt: &HostRuntime) -> io::Result<Option<Asked>> {
     if let Ok(rounds) = first.as_str().parse() {
         return Ok(Some(Asked::Rates(rounds)));
     }
-    let (Some(count), Some(rounds), Some(millis)) = (
-        number(words.next()),
-        number(words.next()),
-        number(words.next()),
-    ) else {
+    let (Some(count), Some(rounds)) = (number(words.next()), number(words.next())) else {
+        return Ok(None);
+    };
+    if first.as_str() == "round" {
+        return Ok(Some(Asked::Rounds(count, rounds)));
+    }
+    let Some(millis) = number(words.next()) else {
         return Ok(None);
     };
     let case = Case {
@@ -312,6 +319,42 @@ fn measure_chains<R: Threads + Clock + Wait + Print + Sync>(
     Ok(true)
 }
 
+/// A time in tenths of a nanosecond, of each of so many.
+fn tenths(took: Duration, rounds: u32) -> u64 {
+    let nanos = u64::try_from(took.as_nanos()).unwrap_or(u64::MAX);
+    nanos.saturating_mul(10) / (rounds as u64).max(1)
+}
+
+/// Whether there was memory for it. A round that polled one, or a scan that found something, is an error.
+fn measure_rounds<R: Clock + Print>(
+    rt: &R,
+    alloc: Global,
+    asked: u32,
+    rounds: u32,
+    with_times: bool,
+) -> io::Result<bool> {
+    let coroutines = asked.min(round_loop::MOST);
+    let Some(measured) = round_loop::run(rt, alloc, coroutines, rounds)? else {
+        return Ok(false);
+    };
+    if measured.polled != 0 || measured.found != 0 {
+        return Err(io::Error::from(io::ErrorKind::InvalidData));
+    }
+    println!(rt;
+        "coroutines {coroutines}, rounds {rounds}: scans {}",
+        measured.scans
+    )?;
+    if with_times {
+        let round = tenths(measured.rounds_took, rounds);
+        let scans = tenths(measured.scans_took, rounds);
+        let ratio = Ratio::of(round, scans);
+        println!(rt;
+            "  tenths of a nanosecond: a round {round}, its scans alone {scans} (ratio {ratio})"
+        )?;
+    }
+    Ok(true)
+}
+
 /// Heaps and ports with 1, 2 and 4 threads, and a queue while few and many items wait in others. Whether there was memory for it.
 fn measure_loops<R: Threads + Clock + Wait + Print + Sync>(
     rt: &R,
@@ -358,7 +401,8 @@ fn measure_fixed<R: Threads + Clock + Wait + Print + Sync>(
     Ok(
         measure_loops(rt, alloc, FIXED_ROUNDS, false)?
             && measure_waits(rt, alloc, waits, false)?
-            && measure_chains(rt, alloc, chains, false)?,
+            && measure_chains(rt, alloc, chains, false)?
+            && measure_rounds(rt, alloc, round_loop::MOST, FIXED_ROUNDS, false)?,
     )
 }
 
@@ -370,6 +414,9 @@ fn main(rt: HostRuntime) -> io::Result<()> {
         Some(Asked::Rates(rounds)) => measure_loops(&rt, alloc, rounds, true)?,
         Some(Asked::Waits(case)) => measure_waits(&rt, alloc, case, true)?,
         Some(Asked::Chains(case)) => measure_chains(&rt, alloc, case, true)?,
+        Some(Asked::Rounds(coroutines, rounds)) => {
+            measure_rounds(&rt, alloc, coroutines, rounds, true)?
+        }
     };
     if found_memory {
         Ok(())
