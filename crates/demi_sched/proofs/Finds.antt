@@ -8,9 +8,11 @@ use Rattle.demi_sched.specs.Scanning.{IsWithin}
 use Rattle.demi_sched.proofs.Rows.{zero_at}
 
 -- in any word
-within_word : (n : ℕ) (mask : List ℕ) (q k : ℕ) → bit_at (get_or (bit_and n (get_or mask 0 0) ∷ replicate 15 0) q 0) k ≡ 1 → bit_at (get_or mask q 0) k ≡ 1
+within_word : (n : ℕ) (mask : List ℕ) (q k : ℕ) → bit_at
+    (get_or (bit_and n (get_or mask 0 0) ∷ replicate 15 0) q 0) k ≡ 1 → bit_at (get_or mask q 0) k ≡ 1
 within_word n mask zero k e =
-    let both = sym e ∙ bit_at_and n (get_or mask 0 0) k in let a = bit_at-lt n k in let b = bit_at-lt (get_or mask 0 0) k in omega arith
+    let both = sym e ∙ bit_at_and n (get_or mask 0 0) k in let a = bit_at-lt n k in
+    let b = bit_at-lt (get_or mask 0 0) k in omega arith
 within_word n mask (suc q) k e = absurd (let none = ap (λ w. bit_at w k) (zero_at 15 q) ∙ bit_at-zero k in omega arith)
 
 -- the bits of a word of which those of a mask are left are within the mask

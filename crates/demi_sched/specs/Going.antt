@@ -18,7 +18,8 @@ Differ (n ∷ ns) = Each (λ m. m ≢ n) ns × Differ ns
 -- the names of those that a round polls that saw this, in their order
 abbrev pub polled_names : {K : Type 0} → (K → ℕ) → List Seen → List (Held K) → List ℕ
 polled_names name_of seen [] = []
-polled_names name_of seen (h ∷ hs) = cond (is_polled seen h.state) (name_of h.coroutine ∷ polled_names name_of seen hs) (polled_names name_of seen hs)
+polled_names name_of seen (h ∷ hs) = cond (is_polled seen h.state)
+    (name_of h.coroutine ∷ polled_names name_of seen hs) (polled_names name_of seen hs)
 
 -- One went to the other by steps of those who have these names, in this order: by none of them it went as by anyone.
 abbrev pub GoesBy : {C : Type 0} → (ℕ → C → C → Type 0) → List ℕ → C → C → Type 0

@@ -24,7 +24,8 @@ Rising (s ∷ ss) = Each (λ (x : Seen). s.port < x.port) ss × Rising ss
 pub record ScansAll (tokens : List QToken) (seen : List Seen) : Type 0 where
   pub rising : Rising seen
   pub ports : (p : ℕ) → AnyOf (λ (s : Seen). s.port ≡ p) seen ↔ AnyOf (λ (t : QToken). t.port ≡ p) tokens
-  pub masks : Each (λ (s : Seen). (i : ℕ) → i < 1024 → (has_bit s.mask.words i ≡ 1) ↔ AnyOf (IsTokenAt s.port i) tokens) seen
+  pub masks : Each (λ (s : Seen). (i : ℕ) → i < 1024
+      → (has_bit s.mask.words i ≡ 1) ↔ AnyOf (IsTokenAt s.port i) tokens) seen
 
 -- the token's bit was found in a scan of its port
 abbrev pub is_woken : List Seen → QToken → Bool

@@ -31,7 +31,10 @@ impl Model for Desk {
 
     ghost view = { λ d. d.seen.items };
 
-    ghost invariant = { λ d. (d.pass.port ≡ d.port) × (d.pass.number ≡ 0) × (length d.pass.submitted ≡ d.asked) × (length d.pass.redeemed ≡ d.answered) × (d.device.seat.port ≡ d.port) × (d.device.seat.passes ≡ 1) × (d.home.items ≡ []) × (1 ≤ vec_capacity d.home) };
+    ghost invariant = { λ d. (d.pass.port ≡ d.port) × (d.pass.number ≡ 0)
+        × (length d.pass.submitted ≡ d.asked) × (length d.pass.redeemed ≡ d.answered)
+        × (d.device.seat.port ≡ d.port) × (d.device.seat.passes ≡ 1)
+        × (d.home.items ≡ []) × (1 ≤ vec_capacity d.home) };
 }
 
 impl Desk {

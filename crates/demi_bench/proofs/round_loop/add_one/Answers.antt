@@ -9,4 +9,5 @@ add-number-requires-clause-name c = let ns = names_of (λ k. k.name) c.args.sche
     subst (λ m. Each (λ n. n ≢ m) ns) (sym c.new.ensures) (other c.args.name ns c.requires.names)
 
 pub returns-clause-names : goal.returns-clause-names
-returns-clause-names c = counted (λ k. k.name) c.add-number.result c.add-number.new.self c.args.scheduler.now c.new.result c.args.name c.new.ensures c.add-number.ensures.added c.add-number.ensures.back c.requires.names
+returns-clause-names c = counted (λ k. k.name) c.add-number.result c.add-number.new.self c.args.scheduler.now
+    c.new.result c.args.name c.new.ensures c.add-number.ensures.added c.add-number.ensures.back c.requires.names

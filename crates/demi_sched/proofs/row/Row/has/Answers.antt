@@ -11,4 +11,5 @@ returns-then-self c = let r = c.args.self.now in let i = c.args.index in
 
 pub returns-else-self : goal.returns-else-self
 returns-else-self c = let r = c.args.self.now in let i = c.args.index in
-    c.if-self.false ∙ sym (ap (λ b. has_bit (cond {A = Bits} b r.bits (record { words = replicate 16 0 })).words i == 1) c.if-self.false ∙ ap (λ n. n == 1) (zeros_none i))
+    c.if-self.false ∙ sym (ap (λ b. has_bit (cond {A = Bits} b r.bits
+    (record { words = replicate 16 0 })).words i == 1) c.if-self.false ∙ ap (λ n. n == 1) (zeros_none i))
