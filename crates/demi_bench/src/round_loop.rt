@@ -34,6 +34,7 @@ fn port_of(name: u32) -> u16
 // Ports, as the context of coroutines.
 struct Ways {
     ways: Vec<Way>,
+    begun: u64,
     scans: u64,
     seen: Mark<LinkedList<Seen>>,
 }
@@ -65,11 +66,14 @@ impl Scanner for Ways {
 
     ghost seen = { λ s. s.seen.value };
 
+    ghost begun = { λ s. s.begun };
+
     ghost ports = { λ _. 35 };
 
     ghost goes = { λ _ _ _. Unit {0} };
 
     fn begin(&mut self) {
+        self.begun = self.begun.saturating_add(1);
         self.seen = nothing_seen();
     }
 
@@ -296,12 +300,14 @@ pub fn run<R: Clock>(
     };
     let mut ways = Ways {
         ways: opened,
+        begun: 0,
         scans: 0,
         seen: nothing_seen(),
     };
     let measured = measure(rt, &mut scheduler, &mut ways, coroutines, rounds);
     let Ways {
         ways,
+        begun: _,
         scans: _,
         seen: _,
     } = ways;

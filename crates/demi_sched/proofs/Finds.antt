@@ -1,9 +1,8 @@
 -- What a port finds of a mask.
-use Rattle.std.specs.Prelude.{◌≡◌, ℕ, zero, suc, ◌/◌, ◌%◌, ◌<◌, List, [], ◌∷◌, bit_and, min, refl, replicate, slice_index_or}
+use Rattle.std.specs.Prelude.{◌≡◌, ℕ, zero, suc, ◌/◌, ◌%◌, List, ◌∷◌, bit_and, replicate, slice_index_or}
 use Rattle.std.proofs.Common.{sym, ◌∙◌, ap, arith, get_or}
 use Rattle.std.specs.Int.{bit_at}
 use Rattle.std.proofs.lemmas.Nat.Bits.{bit_at-lt, bit_at-zero, bit_at_and}
-use Rattle.demi_port_core.specs.Bits.{has_bit}
 use Rattle.demi_sched.specs.Scanning.{IsWithin}
 use Rattle.demi_sched.proofs.Rows.{zero_at}
 

@@ -1,10 +1,14 @@
 -- Which ports a round scans, and which tokens are woken.
-use Rattle.std.specs.Prelude.{◌≡◌, ℕ, ◌%◌, ◌<◌, ◌&&◌, ◌||◌, ◌==◌, Bool, false, List, [], ◌∷◌}
+use Rattle.std.specs.Prelude.{◌≡◌, ℕ, ◌+◌, ◌%◌, ◌<◌, ◌&&◌, ◌||◌, ◌==◌, ◌⊎◌, Bool, false, List, [], ◌∷◌}
 use mathlib.Core.Logic.{◌↔◌}
 use Rattle.demi_port_core.specs.Bits.{has_bit}
 use Rattle.demi_port_core.specs.History.{AnyOf, Each}
 use Rattle.demi_port_core.specs.declared.place.QToken.{QToken}
 use Rattle.demi_sched.specs.declared.seen.Seen.{Seen}
+
+-- one more, or the largest number of 64 bits
+abbrev pub CountsUp : ℕ → ℕ → Type 0
+CountsUp before after = (after ≡ before + 1) ⊎ ((before ≡ 18446744073709551615) × (after ≡ 18446744073709551615))
 
 -- each index of one set is one of the other
 abbrev pub IsWithin : List ℕ → List ℕ → Type 0

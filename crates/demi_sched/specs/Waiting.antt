@@ -1,5 +1,5 @@
 -- What coroutines wait for, and how they stand between polls.
-use Rattle.std.specs.Prelude.{◌≡◌, ℕ, ◌+◌, ◌<◌, ◌⊎◌, Bool, true, false, cond, List, [], ◌∷◌, ◌++◌}
+use Rattle.std.specs.Prelude.{ℕ, ◌+◌, ◌<◌, Bool, true, false, cond, List, [], ◌∷◌, ◌++◌}
 use Rattle.demi_port_core.specs.History.{Each}
 use Rattle.demi_port_core.specs.declared.place.QToken.{QToken}
 use Rattle.demi_sched.specs.declared.held.Held.{Held}
@@ -7,10 +7,6 @@ use Rattle.demi_sched.specs.declared.next.Next.{Next}
 use Rattle.demi_sched.specs.declared.next.Next.TheVariants.{Wait, Yield, Ended as Over}
 use Rattle.demi_sched.specs.declared.state.State.{State}
 use Rattle.demi_sched.specs.declared.state.State.TheVariants.{Due, Waiting, Ended}
-
--- one more, or the largest number of 64 bits
-abbrev pub CountsUp : ℕ → ℕ → Type 0
-CountsUp before after = (after ≡ before + 1) ⊎ ((before ≡ 18446744073709551615) × (after ≡ 18446744073709551615))
 
 -- how a coroutine stands after a poll that answered this
 abbrev pub state_after : Next → State

@@ -66,6 +66,7 @@ impl Row {
         ensures same { (self.new.asked ≡ self.old.asked) × (self.new.mask ≡ self.old.mask) }
         ensures seen { C.seen cx.new ≡ C.seen cx.old ++ scans port (self.new ∷ []) }
         ensures none { result ≡ false → (t : QToken) → is_woken (scans port (self.new ∷ [])) t ≡ false }
+        ensures begun { C.begun cx.new ≡ C.begun cx.old }
         ensures ports { C.ports cx.new ≡ C.ports cx.old }
         ensures goes { (n : ℕ) → C.goes n cx.old cx.new }
     {

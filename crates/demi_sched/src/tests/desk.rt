@@ -19,17 +19,18 @@ pub(crate) struct Desk {
     device: Device<Doubler>,
     home: Vec<PortPass<Doubles>>,
     seen: ArrayVec<Seen, 35>,
+    begun: u64,
     asked: u32,
     answered: u32,
 }
 
 impl Model for Desk {
-    ghost use Rattle.std.specs.Prelude.{◌≡◌, ◌≤◌, List, [], length, vec_capacity};
+    ghost use Rattle.std.specs.Prelude.{◌≡◌, ◌≤◌, ℕ, List, [], length, vec_capacity};
     ghost use Rattle.demi_sched.specs.declared.seen.Seen.{Seen};
 
-    ghost Value = { List Seen };
+    ghost Value = { ℕ × List Seen };
 
-    ghost view = { λ d. d.seen.items };
+    ghost view = { λ d. (d.begun, d.seen.items) };
 
     ghost invariant = { λ d. (d.pass.port ≡ d.port) × (d.pass.number ≡ 0)
         × (length d.pass.submitted ≡ d.asked) × (length d.pass.redeemed ≡ d.answered)
@@ -41,7 +42,7 @@ impl Desk {
     /// A new port with so many tokens.
     pub(crate) fn open(rt: &impl Abort, alloc: Global, tokens: u32) -> Desk
         requires { (1 ≤ tokens) × (tokens ≤ 64) }
-        ensures { result ≡ [] }
+        ensures { result.1 ≡ [] }
     {
         let Ok((port, mut home, seat)) = Port::<Doubles>::make::<Brand>(alloc, tokens, 1) else {
             panic!(rt; "no memory");
@@ -58,6 +59,7 @@ impl Desk {
             device,
             home,
             seen: ArrayVec::new(),
+            begun: 0,
             asked: 0,
             answered: 0,
         }
@@ -118,6 +120,7 @@ impl Desk {
             device,
             mut home,
             seen: _,
+            begun: _,
             asked,
             answered,
         } = self;
@@ -133,7 +136,9 @@ impl Desk {
 impl Scanner for Desk {
     ghost use Rattle.std.specs.Prelude.{refl};
 
-    ghost seen = { λ s. s };
+    ghost seen = { λ s. s.1 };
+
+    ghost begun = { λ s. s.0 };
 
     ghost ports = { λ _. 1 };
 
@@ -141,6 +146,7 @@ impl Scanner for Desk {
 
     fn begin(&mut self) {
         self.seen.clear();
+        self.begun = self.begun.saturating_add(1);
     }
 
     fn scan(&mut self, port: u16, mask: &Mask) -> Bits {

@@ -1,4 +1,3 @@
-use Rattle.std.proofs.Common.{refl}
 use Rattle.demi_sched.proofs.Rows.{woken_by_none}
 use Rattle.demi_sched.proofs.row.Row.scan.Goals as goal
 
