@@ -4,18 +4,17 @@ ghost use Rattle.std.specs.Prelude.{◌≡◌, ◌+◌, ◌<◌, ◌≤◌, [], 
 ghost use Rattle.std.specs.Thread.{IsSync};
 ghost use Rattle.demi_bench.specs.Asking.{IsFirst};
 ghost use Rattle.demi_bench.specs.Serving.{IsDone};
-ghost use Rattle.demi_sched.specs.Scanning.{IsWithin};
 
 use crate::doubler;
-use crate::doubler::{Doubler, TOKENS};
+use crate::doubler::Doubler;
 use crate::idling::Idling;
-use crate::port_loop::{close_unused, redeem, submit};
+use crate::port_loop::{redeem, submit};
+use crate::way::Way;
 use demi_device::Device;
-use demi_port::{DeviceSeat, Port, PortPass};
-use demi_port_core::{Bits, Doubles, Mask};
+use demi_port::{Port, PortPass};
+use demi_port_core::Doubles;
 use std::alloc::Global;
 use std::io;
-use std::marker::{Brand, Model};
 use std::sync::Wait;
 use std::thread::{Threads, for_each_mut, join_mut, sleep};
 use std::time::{Clock, Duration, Instant};
@@ -32,84 +31,6 @@ pub struct Load {
     pub silence: Duration,
     /// How its threads wait.
     pub idling: Idling,
-}
-
-/// A port that one caller asks and one device serves. The vector is the one in which its pass was given.
-pub(crate) struct Way {
-    port: Port<Doubles>,
-    pass: PortPass<Doubles>,
-    device: Device<Doubler>,
-    home: Vec<PortPass<Doubles>>,
-}
-
-impl Model for Way {
-    ghost use Rattle.std.specs.Prelude.{◌≡◌, ◌≤◌, [], length, vec_capacity};
-    ghost use Rattle.demi_bench.specs.Asking.{IsFirst};
-
-    ghost Value = { Unit {0} };
-
-    ghost view = { λ _. tt };
-
-    ghost invariant = { λ w. IsFirst w.port w.pass × (w.device.seat.port ≡ w.port) × (w.device.seat.passes ≡ 1) × (length w.device.seat.fetched ≡ length w.device.engine.history.value) × (w.home.items ≡ []) × (1 ≤ vec_capacity w.home) };
-}
-
-// Closes a port at which nothing is under way.
-fn close_one(
-    port: Port<Doubles>,
-    seat: DeviceSeat<Doubles>,
-    pass: PortPass<Doubles>,
-    mut home: Vec<PortPass<Doubles>>,
-)
-    requires seat { (seat.port ≡ port) × (seat.passes ≡ 1) }
-    requires pass { IsFirst port pass }
-    requires home { (home.items ≡ []) × (1 ≤ vec_capacity home) }
-{
-    home.push_reserved(pass);
-    let _ended = port.close(seat, home);
-}
-
-impl Way {
-    /// A new port. `None` is want of memory.
-    pub(crate) fn open(alloc: Global) -> Option<Way> {
-        let Ok((port, mut passes, seat)) = Port::<Doubles>::make::<Brand>(alloc, TOKENS, 1) else {
-            return None;
-        };
-        let device = match Device::make(alloc, Doubler::new(), seat, TOKENS) {
-            Ok(device) => device,
-            Err((_engine, seat)) => {
-                close_unused(port, seat, passes);
-                return None;
-            }
-        };
-        let Some(pass) = passes.pop() else {
-            unreachable!()
-        };
-        Some(Way {
-            port,
-            pass,
-            device,
-            home: passes,
-        })
-    }
-
-    /// Takes the waker bits of the mask.
-    pub(crate) fn scan(&mut self, mask: &Mask) -> Bits
-        ensures { IsWithin result.words mask.now.words }
-    {
-        self.port.scan(&mut self.pass, mask)
-    }
-
-    /// Closes the port.
-    pub(crate) fn close(self) {
-        let Way {
-            port,
-            pass,
-            device,
-            home,
-        } = self;
-        let (_engine, seat) = device.parts();
-        close_one(port, seat, pass, home);
-    }
 }
 
 // Asks once and waits for the answer.

@@ -11,6 +11,7 @@
 //! this machine: compare those of one line.
 #![tactic(auto)]
 
+mod asked;
 mod chain_loop;
 mod channel_loop;
 mod channels;
@@ -22,12 +23,14 @@ mod memq_loop;
 mod ping_loop;
 mod port_loop;
 mod round_loop;
+mod way;
 
 ghost use Rattle.std.specs.Prelude.{◌*◌, ◌≤◌};
 ghost use Rattle.demi_bench.specs.declared.doubler.TheConstants.{TOKENS};
 ghost use Rattle.demi_bench.specs.declared.port_loop.TheConstants.{IN_FLIGHT};
 ghost use Rattle.demi_bench.specs.declared.round_loop.TheConstants.{MOST};
 
+use crate::asked::{Asked, Case, read_words};
 use crate::chain_loop::Load;
 use crate::doubler::TOKENS;
 use crate::idling::Idling;
@@ -37,7 +40,7 @@ use std::sync::Wait;
 use std::sync::atomic::{AtomicU64, Ordering};
 use std::thread::Threads;
 use std::time::{Clock, Duration};
-use std::{env, fmt, io};
+use std::{fmt, io};
 
 /// Rounds of each thread in the fixed case.
 const FIXED_ROUNDS: u32 = 500;
@@ -66,58 +69,6 @@ impl Display for Ratio {
     fn fmt<W: Write>(&self, f: &mut Formatter<W>) -> fmt::Result {
         write!(f, "{}.{:02}", self.0 / 100, self.0 % 100)
     }
-}
-
-/// What the words ask for.
-enum Asked {
-    Fixed,
-    Rates(u32),
-    Waits(Case),
-    Chains(Case),
-    Rounds(u32, u32),
-}
-
-/// How many callers or links, how many operations or requests of each, and a time in milliseconds.
-#[derive(Clone, Copy)]
-struct Case {
-    count: u32,
-    rounds: u32,
-    millis: u32,
-}
-
-fn number(word: Option<String>) -> Option<u32> {
-    word.and_then(|word| word.as_str().parse().ok())
-}
-
-/// `None` where the words ask for nothing.
-fn read_words(rt: &HostRuntime) -> io::Result<Option<Asked>> {
-    let mut words = env::args(rt)?;
-    let _program = words.next();
-    let Some(first) = words.next() else {
-        return Ok(Some(Asked::Fixed));
-    };
-    if let Ok(rounds) = first.as_str().parse() {
-        return Ok(Some(Asked::Rates(rounds)));
-    }
-    let (Some(count), Some(rounds)) = (number(words.next()), number(words.next())) else {
-        return Ok(None);
-    };
-    if first.as_str() == "round" {
-        return Ok(Some(Asked::Rounds(count, rounds)));
-    }
-    let Some(millis) = number(words.next()) else {
-        return Ok(None);
-    };
-    let case = Case {
-        count,
-        rounds,
-        millis,
-    };
-    Ok(match first.as_str() {
-        "wait" => Some(Asked::Waits(case)),
-        "chain" => Some(Asked::Chains(case)),
-        _ => None,
-    })
 }
 
 /// Whether there was memory for it.

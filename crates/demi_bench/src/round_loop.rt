@@ -7,7 +7,7 @@ ghost use Rattle.demi_sched.specs.Scanning.{IsWithin};
 ghost use Rattle.demi_sched.specs.declared.seen.Seen.{Seen};
 ghost use Rattle.demi_bench.specs.declared.round_loop.TheConstants.{MOST};
 
-use crate::chain_loop::Way;
+use crate::way::Way;
 use arrayvec::ArrayVec;
 use demi_device::Mark;
 use demi_port_core::{Bits, Mask, QToken, Token};

@@ -1,7 +1,7 @@
 use Rattle.std.proofs.Common.{subst, sym}
 use Rattle.demi_sched.specs.Scanning.{IsWithin}
 use Rattle.demi_sched.proofs.Finds.{within_first}
-use Rattle.demi_bench.proofs.chain_loop.Way.scan.Goals as goal
+use Rattle.demi_bench.proofs.way.Way.scan.Goals as goal
 
 pub returns : goal.returns
 returns c = let b = c.scan.ensures.bits in subst (λ ws. IsWithin ws c.args.mask.now.words) (sym b.3) (within_first b.1 c.args.mask.now.words)

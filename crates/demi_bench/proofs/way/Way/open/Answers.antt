@@ -1,6 +1,6 @@
 use Rattle.std.proofs.Common.{rules, length, ap, sym, ◌∙◌}
 use Rattle.demi_bench.proofs.Numbers.{only_new}
-use Rattle.demi_bench.proofs.chain_loop.Way.open.Goals as goal
+use Rattle.demi_bench.proofs.way.Way.open.Goals as goal
 
 pub invariant_of-result : goal.invariant_of-result
 invariant_of-result c = let m = c.in-Ok.ensures in let d = c.in-Ok-make.ensures.made in

@@ -1,0 +1,59 @@
+//! The words of the command.
+use std::{env, io};
+
+/// What the words ask for.
+pub enum Asked {
+    /// The small fixed case of each.
+    Fixed,
+    /// The rates of so many rounds.
+    Rates(u32),
+    /// How long callers wait.
+    Waits(Case),
+    /// How many requests links serve.
+    Chains(Case),
+    /// Rounds of so many coroutines, and how many rounds.
+    Rounds(u32, u32),
+}
+
+/// How many callers or links, how many operations or requests of each, and a time in milliseconds.
+#[derive(Clone, Copy)]
+pub struct Case {
+    pub count: u32,
+    pub rounds: u32,
+    pub millis: u32,
+}
+
+fn number(word: Option<String>) -> Option<u32> {
+    word.and_then(|word| word.as_str().parse().ok())
+}
+
+/// `None` where the words ask for nothing.
+pub fn read_words(rt: &HostRuntime) -> io::Result<Option<Asked>> {
+    let mut words = env::args(rt)?;
+    let _program = words.next();
+    let Some(first) = words.next() else {
+        return Ok(Some(Asked::Fixed));
+    };
+    if let Ok(rounds) = first.as_str().parse() {
+        return Ok(Some(Asked::Rates(rounds)));
+    }
+    let (Some(count), Some(rounds)) = (number(words.next()), number(words.next())) else {
+        return Ok(None);
+    };
+    if first.as_str() == "round" {
+        return Ok(Some(Asked::Rounds(count, rounds)));
+    }
+    let Some(millis) = number(words.next()) else {
+        return Ok(None);
+    };
+    let case = Case {
+        count,
+        rounds,
+        millis,
+    };
+    Ok(match first.as_str() {
+        "wait" => Some(Asked::Waits(case)),
+        "chain" => Some(Asked::Chains(case)),
+        _ => None,
+    })
+}
