@@ -1,6 +1,6 @@
 //! Links that are each served through three ports, as a session serves them: a pop now and then, and an ask and a push for each
 //! request. Each link has a worker, and each port a device, in threads of their own, so a link has four threads.
-ghost use Rattle.std.specs.Prelude.{◌≡◌, ◌+◌, ◌<◌, ◌≤◌, [], length, vec_capacity};
+ghost use Rattle.std.specs.Prelude.{◌≡◌};
 ghost use Rattle.std.specs.Thread.{IsSync};
 ghost use Rattle.demi_bench.specs.Asking.{IsFirst};
 ghost use Rattle.demi_bench.specs.Serving.{IsDone};

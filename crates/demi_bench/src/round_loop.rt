@@ -2,7 +2,6 @@
 ghost use Rattle.std.specs.Prelude.{◌≡◌, ◌+◌, ◌++◌, ◌≤◌, ◌<◌, [], ◌∷◌, IfSome};
 ghost use Rattle.demi_port_core.specs.History.{Each};
 ghost use Rattle.demi_sched.specs.Going.{names_of};
-ghost use Rattle.demi_sched.specs.Holding.{SchedulerValue};
 ghost use Rattle.demi_sched.specs.Scanning.{IsWithin};
 ghost use Rattle.demi_sched.specs.declared.seen.Seen.{Seen};
 ghost use Rattle.demi_bench.specs.declared.round_loop.TheConstants.{MOST};
