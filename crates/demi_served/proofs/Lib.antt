@@ -1,0 +1,4 @@
+mod Lists
+mod Folds
+mod Answering
+mod Entries

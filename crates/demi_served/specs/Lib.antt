@@ -1,0 +1,9 @@
+pub mod Talks
+pub mod Answers
+pub mod Served
+pub mod Asking
+pub mod Accounts
+pub mod Keeps
+pub mod Steps
+pub mod Ends
+pub mod Alone
