@@ -5,3 +5,5 @@ mod Entries
 mod Steady
 mod Places
 mod Comes
+mod Serves
+mod Closes
