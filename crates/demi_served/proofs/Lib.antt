@@ -7,3 +7,8 @@ mod Places
 mod Comes
 mod Serves
 mod Closes
+mod Stepping
+mod Beside
+mod Versions
+mod Sessions
+mod Wholes

@@ -1,0 +1,19 @@
+-- A session whose ends are known was served.
+use Rattle.std.proofs.Common.{List}
+use Rattle.std.specs.List.{AllZip}
+use Rattle.demi_port_core.specs.declared.trail.Trail.{Trail}
+use Rattle.demi_store.specs.Laws.{StoreBasis}
+use Rattle.demi_store.specs.declared.ask.StoreAsk.{StoreAsk}
+use Rattle.demi_store.specs.declared.told.StoreTold.{StoreTold}
+use Rattle.demi_served.specs.Talks.{Run, Talk}
+use Rattle.demi_served.specs.Served.{TornTalk, Served}
+use Rattle.demi_served.specs.Accounts.{Entry}
+use Rattle.demi_served.specs.Keeps.{Worker, Link}
+use Rattle.demi_served.specs.Ends.{StoreEnds}
+use Rattle.demi_served.proofs.Closes.{accounted}
+use Rattle.demi_served.proofs.Serves.{consistent, recorded}
+
+pub served : (b : StoreBasis) (end : Trail StoreAsk StoreTold) (history : List Entry) (workers : List Worker) (links : List Link) (run : Run) (talks : List Talk) → StoreEnds b end history workers links run talks → AllZip TornTalk run.links talks → Served run
+served b end history workers links run talks ends torn =
+    let a = accounted b end history workers links run talks ends in
+    record { talks = talks; read = torn; consistent = consistent b history end.told run talks a; recorded = recorded b history end.told run talks a }
