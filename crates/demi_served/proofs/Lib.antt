@@ -12,3 +12,7 @@ mod Beside
 mod Versions
 mod Sessions
 mod Wholes
+mod AsksAll
+mod Orders
+mod Leaves
+mod Alone

@@ -1,7 +1,8 @@
 -- One link and one worker: what its worker asked, in order.
-use Rattle.std.specs.Prelude.{◌≡◌, ℕ, ◌+◌, List, [], ◌∷◌, map, Option, Some, None}
+use Rattle.std.specs.Prelude.{◌≡◌, ℕ, ◌+◌, List, [], ◌∷◌, ◌++◌, map, Option, Some, None}
+use Rattle.std.specs.List.{AllByRecursion}
 use Rattle.demi_store.specs.declared.ask.StoreAsk.{StoreAsk}
-use Rattle.demi_served.specs.Asking.{Ask, asks_for, ask_of}
+use Rattle.demi_served.specs.Asking.{Ask, Stops, asks_for, ask_of}
 use Rattle.demi_served.specs.Keeps.{Draw, Worker}
 
 -- a sequence number, and what is asked with it
@@ -25,6 +26,16 @@ asked_with sequence (d ∷ draws) = with_ask sequence (ask_of d.link d.index d.r
 abbrev pub asked_by : List StoreAsk → List Numbered
 asked_by history = map numbered_ask history
 
+-- the operations that a worker's pass submitted, in order
+abbrev pub submitted_by : Worker → List StoreAsk
+submitted_by w = map (λ x. x.1.1) w.submitted
+
 -- the worker asked with each number that it drew for a request that asks the store, and nothing else
 abbrev pub AsksAll : Worker → Type 0
-AsksAll w = asked_by (map (λ x. x.1.1) w.submitted) ≡ asked_with 1 w.draws
+AsksAll w = asked_by (submitted_by w) ≡ asked_with 1 w.draws
+
+-- it did so, and then stopped the store
+pub record AskedAll (w : Worker) : Type 0 where
+  pub stops : List Numbered
+  pub are_stops : AllByRecursion (λ s. s.ask ≡ Stops) stops
+  pub asked : asked_by (submitted_by w) ≡ asked_with 1 w.draws ++ stops
