@@ -24,7 +24,7 @@ use Rattle.demi_served.specs.Talks.{Run, Talk}
 use Rattle.demi_served.specs.Asking.{Ask, Puts, Gets, Stops, asks_for, ask_of, plain_answer}
 use Rattle.demi_served.specs.Accounts.{Entry, asks_at, asked_in, standing_at_end, IsLeft, IsRequest, IsLater, IsAccounted, Accounted}
 use Rattle.demi_served.specs.Keeps.{Draw, Worker, Link, of_link, numbered, RepliesKeep}
-use Rattle.demi_served.specs.Steps.{new_worker, after_draw, after_ask, after_stop}
+use Rattle.demi_served.specs.Steps.{new_worker, after_draw, after_ask, after_stop, after_handing}
 use Rattle.demi_served.specs.Ends.{IsForOwn, IsTalkOf, StoreEnds}
 use Rattle.demi_served.specs.Alone.{Numbered, numbered_ask, with_ask, asked_with, asked_by, submitted_by, AsksAll, AskedAll}
 use Rattle.demi_served.proofs.Lists.{some_is, all_at, all_by, all_append, get_left}
@@ -84,3 +84,9 @@ of_only_pass (e ∷ history) place h =
     let test : (e.0 == 0) ≡ true = grind (arith, nat_tests) in
     ap (λ (c : Bool). map (λ (x : ℕ × (ℕ × StoreAsk)). x.1.1) (cond c ((place, e.1) ∷ of_pass 0 (place + 1) history) (of_pass 0 (place + 1) history))) test
     ∙ ap (λ (l : List StoreAsk). e.1.1 ∷ l) (of_only_pass history (place + 1) (λ p x at. h (suc p) x at))
+
+pub handed_all : (w : Worker) (known : Trail StoreAsk StoreTold) → AsksAll w → AsksAll (after_handing w known)
+handed_all w known h = h
+
+pub handed_again : (w : Worker) (known : Trail StoreAsk StoreTold) → AskedAll w → AskedAll (after_handing w known)
+handed_again w known h = record { stops = h.stops; are_stops = h.are_stops; asked = h.asked }

@@ -15,4 +15,4 @@ mod Wholes
 mod AsksAll
 mod Orders
 mod Leaves
-mod Alone
+mod OnlyLink

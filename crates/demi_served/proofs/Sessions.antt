@@ -1,12 +1,12 @@
 -- A session whose ends are known was served.
-use Rattle.std.proofs.Common.{List}
+use Rattle.std.proofs.Common.{List, [], ◌∷◌, inl}
 use Rattle.std.specs.List.{AllZip}
 use Rattle.demi_port_core.specs.declared.trail.Trail.{Trail}
 use Rattle.demi_store.specs.Laws.{StoreBasis}
 use Rattle.demi_store.specs.declared.ask.StoreAsk.{StoreAsk}
 use Rattle.demi_store.specs.declared.told.StoreTold.{StoreTold}
-use Rattle.demi_served.specs.Talks.{Run, Talk}
-use Rattle.demi_served.specs.Served.{TornTalk, Served}
+use Rattle.demi_served.specs.Talks.{LinkRun, Run, Talk}
+use Rattle.demi_served.specs.Served.{TornTalk, WholeTalk, Served, Whole}
 use Rattle.demi_served.specs.Accounts.{Entry}
 use Rattle.demi_served.specs.Keeps.{Worker, Link}
 use Rattle.demi_served.specs.Ends.{StoreEnds}
@@ -17,3 +17,12 @@ pub served : (b : StoreBasis) (end : Trail StoreAsk StoreTold) (history : List E
 served b end history workers links run talks ends torn =
     let a = accounted b end history workers links run talks ends in
     record { talks = talks; read = torn; consistent = consistent b history end.told run talks a; recorded = recorded b history end.told run talks a }
+
+untorn : (links : List LinkRun) (talks : List Talk) → AllZip WholeTalk links talks → AllZip TornTalk links talks
+untorn [] [] h = tt
+untorn [] (t ∷ talks) h = absurd h
+untorn (l ∷ links) [] h = absurd h
+untorn (l ∷ links) (t ∷ talks) h = (record { asks = h.0.asks; fits = h.0.fits; written = inl h.0.written }, untorn links talks h.1)
+
+pub whole_served : (run : Run) → Whole run → Served run
+whole_served run w = record { talks = w.talks; read = untorn run.links w.talks w.read; consistent = w.consistent; recorded = w.recorded }

@@ -1,4 +1,23 @@
-//! What the closed histories of a session say of the replies to its links: that they are those of one store.
+//! What it means that a session served its links, and the laws by which its closed histories show it.
+//!
+//! `specs/` says it in the reader's order: a session as it is seen from outside, what a reply answers, served and whole;
+//! what the operations of the store's port ask, and how its one history accounts for each reply and each record; what a
+//! worker and a link's coroutine keep while they run, and the steps of a poll; what is known where all ports are closed.
+//!
+//! The crate has no code that runs. Each law is the contract of a function that does nothing, and the layer above cites
+//! them: one clause a step of a poll while the session runs, and one chain of laws at its end. Premises are in the form
+//! in which the ports, the devices and the engines give them.
+//!
+//! Not promised: anything of a session that does not come to its end, and what bytes a link's other end got.
 #![tactic(auto)]
 
-mod laws;
+mod alone;
+mod ends;
+mod keeps;
+
+pub use alone::an_only_link_is_served_in_order;
+pub use ends::{
+    a_closed_session_is_accounted, a_closed_session_is_served, a_session_without_fault_is_whole,
+    a_whole_session_served, an_accounted_session_is_consistent,
+};
+pub use keeps::{a_link_keeps, a_worker_keeps, other_links_are_beside, what_was_said_stays};
