@@ -16,3 +16,5 @@ mod AsksAll
 mod Orders
 mod Leaves
 mod OnlyLink
+mod Outcomes
+mod Ports
