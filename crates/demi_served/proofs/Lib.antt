@@ -17,4 +17,6 @@ mod Orders
 mod Leaves
 mod OnlyLink
 mod Outcomes
-mod Ports
+mod ClosedPorts
+mod Flows
+mod Writes

@@ -7,3 +7,5 @@ pub mod Keeps
 pub mod Steps
 pub mod Ends
 pub mod Alone
+pub mod Reading
+pub mod Writing
