@@ -20,3 +20,5 @@ mod Outcomes
 mod ClosedPorts
 mod Flows
 mod Writes
+mod LinkEnds
+mod Endings

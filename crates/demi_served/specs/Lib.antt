@@ -9,3 +9,4 @@ pub mod Ends
 pub mod Alone
 pub mod Reading
 pub mod Writing
+pub mod Links
