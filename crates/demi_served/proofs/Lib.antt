@@ -22,3 +22,4 @@ mod Flows
 mod Writes
 mod LinkEnds
 mod Endings
+mod Examples
