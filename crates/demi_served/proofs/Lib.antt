@@ -23,3 +23,5 @@ mod Writes
 mod LinkEnds
 mod Endings
 mod Examples
+mod Counting
+mod Sharing

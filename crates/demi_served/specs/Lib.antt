@@ -10,3 +10,4 @@ pub mod Alone
 pub mod Reading
 pub mod Writing
 pub mod Links
+pub mod Sharing
