@@ -24,4 +24,4 @@ mod LinkEnds
 mod Endings
 mod Examples
 mod Counting
-mod Sharing
+mod Gets

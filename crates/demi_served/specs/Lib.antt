@@ -11,3 +11,4 @@ pub mod Reading
 pub mod Writing
 pub mod Links
 pub mod Sharing
+pub mod Sessions
