@@ -25,3 +25,4 @@ mod Endings
 mod Examples
 mod Counting
 mod Gets
+mod Logs

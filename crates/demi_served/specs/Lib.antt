@@ -12,3 +12,4 @@ pub mod Writing
 pub mod Links
 pub mod Sharing
 pub mod Sessions
+pub mod LogEnds
