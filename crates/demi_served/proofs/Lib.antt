@@ -25,4 +25,5 @@ mod Endings
 mod Examples
 mod Counting
 mod Gets
-mod Logs
+mod Writing
+mod LogRuns

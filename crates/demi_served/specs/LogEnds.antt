@@ -20,4 +20,4 @@ pub record LogEnds (b : StoreBasis) (history : List StoreAsk) (trail : List (ℕ
   pub torn : List ℕ
   pub is_torn : IsTorn (standing_at_end b history trail).fault (asked_in history) torn
   pub one : (logged.extra ≡ []) ⊎ (torn ≡ [])
-  pub text : bytes ≡ old ++ entries_of (drop (length b.records) records) ++ torn
+  pub text : bytes ≡ old ++ (entries_of (drop (length b.records) records) ++ torn)

@@ -15,6 +15,7 @@ mod alone;
 mod ends;
 mod keeps;
 mod links;
+mod logs;
 mod ports;
 mod sharing;
 
@@ -26,6 +27,7 @@ pub use ends::{
 pub use links::{
     a_link_reads_and_writes, a_receiving_port_ends, a_sending_port_ends, a_text_that_ended_asks_on,
 };
+pub use logs::a_log_ends_as_its_history;
 pub use ports::{a_closed_port_has_its_workers, an_engine_was_served_all, an_outcome_is_replied};
 pub use keeps::{a_link_keeps, a_worker_keeps, other_links_are_beside, what_was_said_stays};
 pub use sharing::each_link_has_one_worker;

@@ -37,7 +37,7 @@ use Rattle.demi_served.proofs.Comes.{step_fault, broken_step, broken_rest}
 use Rattle.demi_served.proofs.Serves.{asked_at}
 
 -- where a fault is said, the fault stands from there on
-fault_stands : (limit place : ℕ) (s : Standing) (a : Ask) (k : Option StoreTold) → s.fault ≡ None → (said_at limit place s a k).0 ≡ Fault → (said_at limit place s a k).1.fault ≡ Some place
+pub fault_stands : (limit place : ℕ) (s : Standing) (a : Ask) (k : Option StoreTold) → s.fault ≡ None → (said_at limit place s a k).0 ≡ Fault → (said_at limit place s a k).1.fault ≡ Some place
 fault_stands limit place s a k none h = elim (step_fault limit place s a k none) [
   | inl still ↦ go s.stop h
   | inr now ↦ now.0
@@ -70,13 +70,13 @@ fault_stands limit place s a k none h = elim (step_fault limit place s a k none)
     go (Some at) h = absurd (cc)
 
 -- after a fault nothing is done any more
-abbrev IsQuiet : Said → Type 0
+abbrev pub IsQuiet : Said → Type 0
 IsQuiet (Broken at) = Unit {0}
 IsQuiet (Stopped at) = Unit {0}
 IsQuiet Halted = Unit {0}
 IsQuiet other = ⊥
 
-quiet_after : (limit place g : ℕ) (s : Standing) (a : Ask) (k : Option StoreTold) → s.fault ≡ Some g → IsQuiet (said_at limit place s a k).0
+pub quiet_after : (limit place g : ℕ) (s : Standing) (a : Ask) (k : Option StoreTold) → s.fault ≡ Some g → IsQuiet (said_at limit place s a k).0
 quiet_after limit place g s a k h = go s.stop
   where
     open_ : (a : Ask) → IsQuiet (said_open limit place s a k (Some g)).0
@@ -92,22 +92,22 @@ quiet_after limit place g s a k h = go s.stop
 abbrev pub asks_in : List (StoreAsk × StoreOut) → List Ask
 asks_in xs = map (λ x. asks_for x.0.op) xs
 
-abbrev outs : ℕ → List (StoreAsk × StoreOut) → List (ℕ × StoreOut)
+abbrev pub outs : ℕ → List (StoreAsk × StoreOut) → List (ℕ × StoreOut)
 outs p [] = []
 outs p (x ∷ xs) = (p, x.1) ∷ outs (p + 1) xs
 
 module _ {D : Type 0} (bytes : D → Option (List ℕ)) (held faults : D → ℕ) (appends : D → List ℕ → Bool → D → Type 0) (looks : D → D → Type 0) where
   -- what one operation left on the disk
-  abbrev StepWrites : List ℕ → Option (List ℕ) → Ask → Said → Type 0
+  abbrev pub StepWrites : List ℕ → Option (List ℕ) → Ask → Said → Type 0
   StepWrites old now ask s = (now ≡ Some (old ++ entries_of (added_by ask s))) ⊎ ((r : Record) × (k : ℕ) × (ask ≡ Puts r) × (s ≡ Fault) × (now ≡ Some (old ++ take k (entry (payload r)))))
 
   unchanged : (old : List ℕ) (la lb : DiskLog D) → lb ≡ la → bytes la.disk ≡ Some old → bytes lb.disk ≡ Some (old ++ [])
   unchanged old la lb same h = ap (λ (l : DiskLog D). bytes l.disk) same ∙ h ∙ ap Some (sym (append-nil old))
 
-  by_answer : (la lb : DiskLog D) (o : StoreOp) (x y : StoreAnswer) → x ≡ y → LogGoes bytes held faults appends looks la lb o x → LogGoes bytes held faults appends looks la lb o y
+  pub by_answer : (la lb : DiskLog D) (o : StoreOp) (x y : StoreAnswer) → x ≡ y → LogGoes bytes held faults appends looks la lb o x → LogGoes bytes held faults appends looks la lb o y
   by_answer la lb o x y e h = subst (λ z. LogGoes bytes held faults appends looks la lb o z) e h
 
-  step_writes : (old : List ℕ) (la lb : DiskLog D) (o : StoreOp) (s : Said) (answer : StoreAnswer) → AnswerIs s answer → LogGoes bytes held faults appends looks la lb o answer → bytes la.disk ≡ Some old → StepWrites old (bytes lb.disk) (asks_for o) s
+  pub step_writes : (old : List ℕ) (la lb : DiskLog D) (o : StoreOp) (s : Said) (answer : StoreAnswer) → AnswerIs s answer → LogGoes bytes held faults appends looks la lb o answer → bytes la.disk ≡ Some old → StepWrites old (bytes lb.disk) (asks_for o) s
   step_writes old la lb (op.Put link index key x) (Told (Stored v value)) answer is goes h =
       let g = by_answer la lb (op.Put link index key x) answer (said.Stored v) is goes in
       let e : List ℕ = entry (payload (record_of_put link index key x)) in

@@ -1,0 +1,19 @@
+// What a session leaves in its log.
+ghost use Rattle.std.specs.Prelude.{◌≡◌, ℕ, List, [], Some};
+ghost use Rattle.demi_port.specs.Seen.{DeviceValue};
+ghost use Rattle.demi_device.specs.Turning.{Agrees};
+ghost use Rattle.demi_spec.specs.Record.{Record};
+ghost use Rattle.demi_store.specs.Engine.{EngineValue, GoesTo};
+ghost use Rattle.demi_store.specs.Laws.{StoreBasis, Admits, told_of};
+ghost use Rattle.demi_store.specs.declared.ask.StoreAsk.{StoreAsk};
+ghost use Rattle.demi_store.specs.declared.told.StoreTold.{StoreTold};
+ghost use Rattle.demi_served.specs.LogEnds.{LogEnds};
+
+use demi_core::Disk;
+
+/// What the engine of the store and its device ensure of a disk that tells its bytes: at the end it has the bytes that it
+/// had, the entries of the records that the history adds, and of a put at whose place it failed at most a front.
+pub fn a_log_ends_as_its_history<D: Disk>()
+    ensures ends { (a b : EngineValue D) (seat : DeviceValue StoreAsk StoreTold StoreBasis) (old : List ℕ) → a.served ≡ [] → a.finished ≡ [] → D.bytes a.core.log.disk ≡ Some old → GoesTo D.bytes D.held D.faults D.appends D.looks a b
+        → Agrees told_of (Admits b.base) b.served b.finished seat → (bytes : List ℕ) × (records : List Record) × (D.bytes b.core.log.disk ≡ Some bytes) × LogEnds b.base b.served seat.trail old bytes records }
+{}
