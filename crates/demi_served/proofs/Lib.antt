@@ -27,3 +27,5 @@ mod Counting
 mod Gets
 mod Writing
 mod LogRuns
+mod Decoded
+mod Outputs

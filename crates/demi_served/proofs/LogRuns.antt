@@ -9,8 +9,8 @@ use Rattle.demi_port_core.specs.History.{Each}
 use Rattle.demi_device.specs.Serving.{trail}
 use Rattle.demi_device.specs.Turning.{Agrees}
 use Rattle.demi_logq.specs.Logged.{Logged as DiskLog}
-use Rattle.demi_spec.specs.LogText.{entry}
-use Rattle.demi_spec.specs.Record.{Record, payload, entries_of}
+use Rattle.demi_spec.specs.LogText.{header, entry}
+use Rattle.demi_spec.specs.Record.{Record, payload, entries_of, log_of}
 use Rattle.demi_store.specs.Engine.{EngineValue, Step, Steps, GoesTo}
 use Rattle.demi_store.specs.History.{Said, Told, Fault, NoMemory, Broken, Stopped, Halted, Standing, opened, struck_at}
 use Rattle.demi_store.specs.Laws.{StoreBasis, Admits, AnswerIs, said_to, told_of}
@@ -229,3 +229,21 @@ log_ends bytes held faults appends looks a c seat old none not h goes agrees =
         text = ap (λ (l : List Record). old ++ (entries_of l ++ r.torn)) (sym new);
       },
     )
+
+same_entries : (records : List Record) → flat_map entry (map payload records) ≡ entries_of records
+same_entries [] = refl
+same_entries (r ∷ records) = ap (λ (l : List ℕ). entry (payload r) ++ l) (same_entries records)
+
+pub log_text_is : (b : StoreBasis) (history : List StoreAsk) (trail : List (ℕ × StoreTold)) (old bytes : List ℕ) (records : List Record) → (e : LogEnds b history trail old bytes records) → old ≡ log_of b.records → bytes ≡ log_of records ++ e.torn
+log_text_is b history trail old bytes records e is =
+    let end : Standing = standing_from b.limit (struck_at trail) 0 (opened b.records) (asked_in history) in
+    let stored : List Record = stored_from b.limit (struck_at trail) 0 (opened b.records) (asked_in history) in
+    let more : List Record = stored ++ e.logged.extra in
+    let all : records ≡ b.records ++ more =
+    e.logged.all ∙ ap (λ (z : Standing). z.records ++ e.logged.extra) (end_is b history trail) ∙ ap (λ (l : List Record). l ++ e.logged.extra) (history_adds b.limit (struck_at trail) 0 (opened b.records) (asked_in history)) ∙ append_assoc b.records stored e.logged.extra in
+    let new : drop (length b.records) records ≡ more = ap (drop (length b.records)) all ∙ drop-append_seam b.records more in
+    let before : old ≡ header ++ entries_of b.records = is ∙ ap (λ (l : List ℕ). header ++ l) (same_entries b.records) in
+    let whole : log_of records ≡ header ++ (entries_of b.records ++ entries_of more) = ap (λ (l : List ℕ). header ++ l) (same_entries records ∙ ap entries_of all ∙ entries_join b.records more) in
+    e.text ∙ ap (λ (l : List Record). old ++ (entries_of l ++ e.torn)) new ∙ ap (λ (l : List ℕ). l ++ (entries_of more ++ e.torn)) before
+    ∙ append_assoc header (entries_of b.records) (entries_of more ++ e.torn) ∙ ap (λ (l : List ℕ). header ++ l) (sym (append_assoc (entries_of b.records) (entries_of more) e.torn))
+    ∙ sym (append_assoc header (entries_of b.records ++ entries_of more) e.torn) ∙ ap (λ (l : List ℕ). l ++ e.torn) (sym whole)

@@ -26,6 +26,7 @@ pub use ends::{
 };
 pub use links::{
     a_link_reads_and_writes, a_receiving_port_ends, a_sending_port_ends, a_text_that_ended_asks_on,
+    what_a_decoder_handed_out_is_asked,
 };
 pub use logs::a_log_ends_as_its_history;
 pub use ports::{a_closed_port_has_its_workers, an_engine_was_served_all, an_outcome_is_replied};
