@@ -4,6 +4,7 @@ use Rattle.std.specs.Prelude.{map, slice_get}
 use Rattle.std.proofs.lemmas.Bool.{cases_lt}
 use Rattle.std.proofs.lemmas.List.{take_all}
 use Rattle.std.proofs.Math.Seq.{drop-append_seam}
+use Rattle.demi_core.specs.Outside.{Rose}
 use Rattle.demi_port.specs.Seen.{DeviceValue}
 use Rattle.demi_port_core.specs.History.{Each}
 use Rattle.demi_device.specs.Serving.{trail}
@@ -148,6 +149,30 @@ module _ {D : Type 0} (bytes : D → Option (List ℕ)) (held faults : D → ℕ
         go (inl wrote) (inr now) more = over now.0 now.1 [] [] (old ++ entries_of new) wrote (ap (λ (l : List Record). old ++ entries_of l) now.1) (inl (refl, refl))
         go (inr (r, k, is, fault, here)) f more = torn_or_whole r k is fault here
 
+-- Where the disk failed, its count rose.
+module _ {D : Type 0} (bytes : D → Option (List ℕ)) (held faults : D → ℕ) (appends : D → List ℕ → Bool → D → Type 0) (looks : D → D → Type 0) (limit : ℕ) (struck : ℕ → Option StoreTold) where
+  never_less : (xs : List (StoreAsk × StoreOut)) (a c : EngineValue D) → Steps bytes held faults appends looks xs a c → faults a.core.log.disk ≤ faults c.core.log.disk
+  never_less [] a c same = equal (ap (λ (v : EngineValue D). faults v.core.log.disk) same)
+    where
+      equal : {m n : ℕ} → n ≡ m → m ≤ n
+      equal e = omega (arith, e)
+  never_less (x ∷ xs) a c steps = let one = steps.1.moves.later in let rest = never_less xs steps.0 c steps.2 in omega arith
+
+  rose_run : (xs : List (StoreAsk × StoreOut)) (p f : ℕ) (s : Standing) (a c : EngineValue D) → Steps bytes held faults appends looks xs a c → SaidEach limit struck p s xs → s.fault ≡ None → (standing_from limit struck p s (asks_in xs)).fault ≡ Some f
+      → Rose (faults a.core.log.disk) (faults c.core.log.disk)
+  rose_run [] p f s a c same each none h = absurd (never (sym none ∙ h))
+    where
+      never : None ≡ Some f → ⊥
+      never e = absurd (cc)
+  rose_run (x ∷ xs) p f s a c steps each none h = elim (step_fault limit p s (asks_for x.0.op) (struck p) none) [
+    | inl still ↦ let one = steps.1.moves.later in let rest = rose_run xs (p + 1) f (said_at limit p s (asks_for x.0.op) (struck p)).1 steps.0 c steps.2 each.1 still h in omega arith
+    | inr now ↦
+        let is : x.1.answer ≡ said.Fault = subst (λ z. AnswerIs z x.1.answer) now.2 each.0 in
+        let one = steps.1.moves.fault is in
+        let rest = never_less xs steps.0 c steps.2 in
+        omega arith
+  ]
+
 -- Over a fresh engine.
 served_more : {D : Type 0} (bytes : D → Option (List ℕ)) (held faults : D → ℕ) (appends : D → List ℕ → Bool → D → Type 0) (looks : D → D → Type 0) (xs : List (StoreAsk × StoreOut)) (a c : EngineValue D) → Steps bytes held faults appends looks xs a c
     → (c.served ≡ a.served ++ map (λ x. x.0) xs) × (c.finished ≡ a.finished ++ outs (length a.served) xs) × (c.base ≡ a.base)
@@ -192,19 +217,38 @@ left_is fault asks extra torn (inl none) = (inl none.0, inl none.1, inl none.0)
 left_is fault asks extra torn (inr (q, r, k, at, here, inl (one, none))) = let n : 0 + q ≡ q = omega arith in (inr (q, r, at ∙ ap Some n, here, one), inl none, inr none)
 left_is fault asks extra torn (inr (q, r, k, at, here, inr (none, less, part))) = let n : 0 + q ≡ q = omega arith in (inl none, inr (q, r, k, at ∙ ap Some n, here, less, part), inl none)
 
-pub log_ends : {D : Type 0} (bytes : D → Option (List ℕ)) (held faults : D → ℕ) (appends : D → List ℕ → Bool → D → Type 0) (looks : D → D → Type 0) (a c : EngineValue D) (seat : DeviceValue StoreAsk StoreTold StoreBasis) (old : List ℕ)
-    → a.served ≡ [] → a.finished ≡ [] → bytes a.core.log.disk ≡ Some old → GoesTo bytes held faults appends looks a c → Agrees told_of (Admits c.base) c.served c.finished seat
-    → (now : List ℕ) × (records : List Record) × (bytes c.core.log.disk ≡ Some now) × LogEnds c.base c.served seat.trail old now records
-log_ends bytes held faults appends looks a c seat old none not h goes agrees =
-    let b : StoreBasis = c.base in
+-- what a fresh engine was served and finished, each as it was said
+pub record Fresh {D : Type 0} (bytes : D → Option (List ℕ)) (held faults : D → ℕ) (appends : D → List ℕ → Bool → D → Type 0) (looks : D → D → Type 0) (a c : EngineValue D) (t : List (ℕ × StoreTold)) : Type 0 where
+  pub did : List (StoreAsk × StoreOut)
+  pub steps : Steps bytes held faults appends looks did a c
+  pub asks : asks_in did ≡ asked_in c.served
+  pub each : SaidEach c.base.limit (struck_at t) 0 (opened c.base.records) did
+
+fresh : {D : Type 0} (bytes : D → Option (List ℕ)) (held faults : D → ℕ) (appends : D → List ℕ → Bool → D → Type 0) (looks : D → D → Type 0) (a c : EngineValue D) (seat : DeviceValue StoreAsk StoreTold StoreBasis)
+    → a.served ≡ [] → a.finished ≡ [] → GoesTo bytes held faults appends looks a c → Agrees told_of (Admits c.base) c.served c.finished seat → Fresh bytes held faults appends looks a c (trail told_of c.finished)
+fresh bytes held faults appends looks a c seat none not goes agrees =
     let xs = goes.0 in
     let m = served_more bytes held faults appends looks xs a c goes.1 in
     let served : c.served ≡ map (λ x. x.0) xs = m.0 ∙ ap (λ (l : List StoreAsk). l ++ map (λ x. x.0) xs) none in
     let finished : c.finished ≡ outs 0 xs = m.1 ∙ ap (λ (l : List (ℕ × StoreOut)). l ++ outs (length a.served) xs) not ∙ ap (λ (l : List StoreAsk). outs (length l) xs) none in
     let t : List (ℕ × StoreTold) = trail told_of c.finished in
-    let asks : asks_in xs ≡ asked_in c.served = same_asks xs ∙ ap asked_in (sym served) in
-    let each = said_each b c.served t xs 0 (opened b.records) refl (subst (Each (IsAdmitted b c.served t)) finished agrees.admitted) (λ i d e. (let n : 0 + i ≡ i = omega arith in ap (slice_get c.served) n ∙ ap (λ (l : List StoreAsk). slice_get l i) served ∙ e)) in
-    let r = run bytes held faults appends looks b.limit (struck_at t) xs 0 (opened b.records) a c old goes.1 each refl h in
+    record {
+      did = xs;
+      steps = goes.1;
+      asks = same_asks xs ∙ ap asked_in (sym served);
+      each = said_each c.base c.served t xs 0 (opened c.base.records) refl (subst (Each (IsAdmitted c.base c.served t)) finished agrees.admitted) (λ i d e. (let n : 0 + i ≡ i = omega arith in ap (slice_get c.served) n ∙ ap (λ (l : List StoreAsk). slice_get l i) served ∙ e));
+    }
+
+pub log_ends : {D : Type 0} (bytes : D → Option (List ℕ)) (held faults : D → ℕ) (appends : D → List ℕ → Bool → D → Type 0) (looks : D → D → Type 0) (a c : EngineValue D) (seat : DeviceValue StoreAsk StoreTold StoreBasis) (old : List ℕ)
+    → a.served ≡ [] → a.finished ≡ [] → bytes a.core.log.disk ≡ Some old → GoesTo bytes held faults appends looks a c → Agrees told_of (Admits c.base) c.served c.finished seat
+    → (now : List ℕ) × (records : List Record) × (bytes c.core.log.disk ≡ Some now) × LogEnds c.base c.served seat.trail old now records
+log_ends bytes held faults appends looks a c seat old none not h goes agrees =
+    let b : StoreBasis = c.base in
+    let t : List (ℕ × StoreTold) = trail told_of c.finished in
+    let g = fresh bytes held faults appends looks a c seat none not goes agrees in
+    let xs = g.did in
+    let asks : asks_in xs ≡ asked_in c.served = g.asks in
+    let r = run bytes held faults appends looks b.limit (struck_at t) xs 0 (opened b.records) a c old g.steps g.each refl h in
     let all : List Ask = asked_in c.served in
     let end : Standing = standing_from b.limit (struck_at t) 0 (opened b.records) all in
     let stored : List Record = stored_from b.limit (struck_at t) 0 (opened b.records) all in
@@ -229,6 +273,15 @@ log_ends bytes held faults appends looks a c seat old none not h goes agrees =
         text = ap (λ (l : List Record). old ++ (entries_of l ++ r.torn)) (sym new);
       },
     )
+
+pub log_rose : {D : Type 0} (bytes : D → Option (List ℕ)) (held faults : D → ℕ) (appends : D → List ℕ → Bool → D → Type 0) (looks : D → D → Type 0) (a c : EngineValue D) (seat : DeviceValue StoreAsk StoreTold StoreBasis) (p : ℕ)
+    → a.served ≡ [] → a.finished ≡ [] → GoesTo bytes held faults appends looks a c → Agrees told_of (Admits c.base) c.served c.finished seat → (standing_at_end c.base c.served seat.trail).fault ≡ Some p → Rose (faults a.core.log.disk) (faults c.core.log.disk)
+log_rose bytes held faults appends looks a c seat p none not goes agrees h =
+    let t : List (ℕ × StoreTold) = trail told_of c.finished in
+    let g = fresh bytes held faults appends looks a c seat none not goes agrees in
+    let final : standing_at_end c.base c.served seat.trail ≡ standing_from c.base.limit (struck_at t) 0 (opened c.base.records) (asks_in g.did) =
+    ap (standing_at_end c.base c.served) agrees.tells ∙ end_is c.base c.served t ∙ ap (standing_from c.base.limit (struck_at t) 0 (opened c.base.records)) (sym g.asks) in
+    rose_run bytes held faults appends looks c.base.limit (struck_at t) g.did 0 p (opened c.base.records) a c g.steps g.each refl (ap (λ (z : Standing). z.fault) (sym final) ∙ h)
 
 same_entries : (records : List Record) → flat_map entry (map payload records) ≡ entries_of records
 same_entries [] = refl
