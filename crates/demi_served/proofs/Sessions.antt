@@ -1,5 +1,5 @@
 -- A session whose ends are known was served.
-use Rattle.std.proofs.Common.{ℕ, List, [], ◌∷◌, inl}
+use Rattle.std.proofs.Common.{ℕ, List, [], ◌∷◌, length, inl}
 use Rattle.std.specs.List.{AllZip}
 use Rattle.demi_port_core.specs.declared.trail.Trail.{Trail}
 use Rattle.demi_store.specs.Laws.{StoreBasis}
@@ -10,8 +10,8 @@ use Rattle.demi_served.specs.Served.{TornTalk, WholeTalk, Served, Whole}
 use Rattle.demi_served.specs.Accounts.{Entry}
 use Rattle.demi_served.specs.Keeps.{Worker, Link}
 use Rattle.demi_served.specs.Ends.{StoreEnds}
-use Rattle.demi_served.specs.Links.{LinkPorts}
-use Rattle.demi_served.specs.Sharing.{MemEntry}
+use Rattle.demi_served.specs.Links.{LinkPorts, AllEnded}
+use Rattle.demi_served.specs.Sharing.{MemEntry, Shared}
 use Rattle.demi_served.specs.Sessions.{SessionAccounted}
 use Rattle.demi_served.proofs.Closes.{accounted}
 use Rattle.demi_served.proofs.LinkEnds.{torn_all}
@@ -38,3 +38,7 @@ accounted_served b history trail ports workers memory run talks s = record {
   consistent = consistent b history trail run talks s.store;
   recorded = recorded b history trail run talks s.store;
 }
+
+pub all_accounted : (b : StoreBasis) (end : Trail StoreAsk StoreTold) (history : List Entry) (workers : List Worker) (links : List Link) (ports : List LinkPorts) (memory : List MemEntry) (run : Run) (talks : List Talk) → StoreEnds b end history workers links run talks
+    → AllEnded run.links ports talks → Shared (length run.links) (length workers) memory → SessionAccounted b history end.told ports (length workers) memory run talks
+all_accounted b end history workers links ports memory run talks ends ended shared = record { store = accounted b end history workers links run talks ends; links = ended; sharing = shared }

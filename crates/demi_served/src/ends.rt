@@ -10,13 +10,16 @@ ghost use Rattle.demi_served.specs.Served.{Consistent, Recorded, TornTalk, Serve
 ghost use Rattle.demi_served.specs.Accounts.{Entry, Accounted};
 ghost use Rattle.demi_served.specs.Keeps.{Worker, Link};
 ghost use Rattle.demi_served.specs.Ends.{StoreEnds};
-ghost use Rattle.demi_served.specs.Links.{LinkPorts};
-ghost use Rattle.demi_served.specs.Sharing.{MemEntry};
+ghost use Rattle.demi_served.specs.Links.{LinkPorts, AllEnded};
+ghost use Rattle.demi_served.specs.Sharing.{MemEntry, Shared};
 ghost use Rattle.demi_served.specs.Sessions.{SessionAccounted};
 
-/// Where the store's port is closed, what each worker and each link kept alone accounts for all of the session.
+/// Where the store's port is closed, what each worker and each link kept alone accounts for each reply and each record;
+/// and with the ends of the links' ports and of the memory port all of the session is accounted for.
 pub fn a_closed_session_is_accounted()
     ensures accounted { (b : StoreBasis) (end : Trail StoreAsk StoreTold) (history : List Entry) (workers : List Worker) (links : List Link) (run : Run) (talks : List Talk) → StoreEnds b end history workers links run talks → Accounted b history end.told run talks }
+    ensures all { (b : StoreBasis) (end : Trail StoreAsk StoreTold) (history : List Entry) (workers : List Worker) (links : List Link) (ports : List LinkPorts) (memory : List MemEntry) (run : Run) (talks : List Talk) → StoreEnds b end history workers links run talks
+        → AllEnded run.links ports talks → Shared (length run.links) (length workers) memory → SessionAccounted b history end.told ports (length workers) memory run talks }
 {}
 
 /// Where one history accounts for each reply and each record, the replies are answers of one store and the records are
