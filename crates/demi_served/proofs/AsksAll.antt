@@ -22,7 +22,7 @@ use Rattle.demi_store.specs.declared.told.StoreTold.{StoreTold}
 use Rattle.demi_store.specs.declared.told.StoreTold.TheVariants.{ByDisk, ByMemory}
 use Rattle.demi_served.specs.Talks.{Run, Talk}
 use Rattle.demi_served.specs.Asking.{Ask, Puts, Gets, Stops, asks_for, ask_of, plain_answer}
-use Rattle.demi_served.specs.Accounts.{Entry, asks_at, asked_in, standing_at_end, IsLeft, IsRequest, IsLater, IsAccounted, Accounted}
+use Rattle.demi_served.specs.Accounts.{StoreEntry, asks_at, asked_in, standing_at_end, IsLeft, IsNoStop, IsLater, IsAccounted, Accounted}
 use Rattle.demi_served.specs.Keeps.{Draw, Worker, Link, of_link, numbered, RepliesKeep}
 use Rattle.demi_served.specs.Steps.{new_worker, after_draw, after_ask, after_stop, after_handing}
 use Rattle.demi_served.specs.Ends.{IsForOwn, IsTalkOf, StoreEnds}
@@ -77,7 +77,7 @@ stopped_again w p t h = record {
 }
 
 -- the entries of a history that has those of one pass alone
-pub of_only_pass : (history : List Entry) (place : ℕ) → ((p : ℕ) (e : Entry) → slice_get history p ≡ Some e → e.0 ≡ 0) → map (λ (x : ℕ × (ℕ × StoreAsk)). x.1.1) (of_pass 0 place history) ≡ says history
+pub of_only_pass : (history : List StoreEntry) (place : ℕ) → ((p : ℕ) (e : StoreEntry) → slice_get history p ≡ Some e → e.0 ≡ 0) → map (λ (x : ℕ × (ℕ × StoreAsk)). x.1.1) (of_pass 0 place history) ≡ says history
 of_only_pass [] place h = refl
 of_only_pass (e ∷ history) place h =
     let number = h 0 e refl in

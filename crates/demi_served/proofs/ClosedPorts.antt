@@ -10,7 +10,7 @@ use Rattle.demi_store.specs.Laws.{StoreBasis}
 use Rattle.demi_store.specs.declared.ask.StoreAsk.{StoreAsk}
 use Rattle.demi_store.specs.declared.told.StoreTold.{StoreTold}
 use Rattle.demi_served.specs.Served.{Placed}
-use Rattle.demi_served.specs.Accounts.{Entry}
+use Rattle.demi_served.specs.Accounts.{StoreEntry}
 use Rattle.demi_served.specs.Keeps.{Worker}
 use Rattle.demi_served.specs.Ends.{StorePass, StoreEnd, PassesOf, PortClosed}
 
@@ -29,7 +29,7 @@ as_many n [] (p ∷ passes) of = absurd of
 as_many n (w ∷ workers) [] of = absurd of
 as_many n (w ∷ workers) (p ∷ passes) of = ap suc (as_many (n + 1) workers passes of.1)
 
-pub port_closed : (end : StoreEnd) (workers : List Worker) (passes : List StorePass) → PassesOf 0 workers passes → Each (λ p. p.submitted ≡ of_pass p.number 0 end.history) passes → ((p : ℕ) (e : Entry) → get_elem? end.history p ≡ some e → e.0 < length passes)
+pub port_closed : (end : StoreEnd) (workers : List Worker) (passes : List StorePass) → PassesOf 0 workers passes → Each (λ p. p.submitted ≡ of_pass p.number 0 end.history) passes → ((p : ℕ) (e : StoreEntry) → get_elem? end.history p ≡ some e → e.0 < length passes)
     → end.heard ≡ says end.history → Each (λ p. Behind (known_at end) (known_by p)) passes → PortClosed (known_at end) end.history workers
 port_closed end workers passes of mine entries heard behind = record {
   heard = heard;

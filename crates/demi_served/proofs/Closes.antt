@@ -19,7 +19,7 @@ use Rattle.demi_store.specs.declared.told.StoreTold.{StoreTold}
 use Rattle.demi_served.specs.Talks.{Run, Talk}
 use Rattle.demi_served.specs.Served.{Pairwise, IsAsked}
 use Rattle.demi_served.specs.Asking.{Ask, Puts, asks_for, ask_of}
-use Rattle.demi_served.specs.Accounts.{Entry, asks_at, IsAccounted, IsRequest, IsLater, IsNext, Accounted}
+use Rattle.demi_served.specs.Accounts.{StoreEntry, asks_at, IsAccounted, IsNoStop, IsLater, IsNext, Accounted}
 use Rattle.demi_served.specs.Keeps.{Draw, Worker, IsDrawn, IsOfDraw, IsFurther, IsLaterAsk, WorkerKeeps, Link, LinkKeeps, of_link, numbered, IsReplied, RepliesKeep}
 use Rattle.demi_served.specs.Ends.{IsForOwn, IsKeptBy, IsTalkOf, StoreEnds}
 use Rattle.demi_served.proofs.Lists.{some_is, all_at, all_by, placed_at, pairwise_at, get_left}
@@ -96,9 +96,9 @@ same_draw draws i j d e far at to links indexes = elim (cases_lt i j) [
   ]
 ]
 
-module _ (b : StoreBasis) (end : Trail StoreAsk StoreTold) (history : List Entry) (workers : List Worker) (links : List Link) (run : Run) (talks : List Talk) (ends : StoreEnds b end history workers links run talks) where
+module _ (b : StoreBasis) (end : Trail StoreAsk StoreTold) (history : List StoreEntry) (workers : List Worker) (links : List Link) (run : Run) (talks : List Talk) (ends : StoreEnds b end history workers links run talks) where
   -- the worker of an entry
-  pub record Asker (p : ℕ) (x : Entry) : Type 0 where
+  pub record Asker (p : ℕ) (x : StoreEntry) : Type 0 where
     pub worker : Worker
     pub here : slice_get workers x.0 ≡ Some worker
     pub drawn : IsOfDraw worker.draws (p, x.1)
@@ -112,7 +112,7 @@ module _ (b : StoreBasis) (end : Trail StoreAsk StoreTold) (history : List Entry
   pub keeps_of : (n : ℕ) (w : Worker) → slice_get workers n ≡ Some w → WorkerKeeps w
   keeps_of n w e = all_at WorkerKeeps workers n w ends.kept e
 
-  asker : (p : ℕ) (x : Entry) → slice_get history p ≡ Some x → Asker p x
+  asker : (p : ℕ) (x : StoreEntry) → slice_get history p ≡ Some x → Asker p x
   asker p x e =
       let k = get_some workers x.0 (ends.closed.entries p x (get_elem history p x e)) in
       let pass = passes_of x.0 k.0 k.1 in
@@ -125,18 +125,18 @@ module _ (b : StoreBasis) (end : Trail StoreAsk StoreTold) (history : List Entry
       }
 
   -- a later ask of a worker has a greater number
-  rises : (p q : ℕ) (x y : Entry) → p < q → slice_get history p ≡ Some x → slice_get history q ≡ Some y → x.0 ≡ y.0 → IsLater x.1.1 y.1.1
+  rises : (p q : ℕ) (x y : StoreEntry) → p < q → slice_get history p ≡ Some x → slice_get history q ≡ Some y → x.0 ≡ y.0 → IsLater x.1.1 y.1.1
   rises p q x y less e f same =
       let k = get_some workers x.0 (ends.closed.entries p x (get_elem history p x e)) in
       let pass = passes_of x.0 k.0 k.1 in
       let keeps = keeps_of x.0 k.0 k.1 in
       pairs_of_pass IsLaterAsk x.0 0 history p q x y (subst (Pairwise IsLaterAsk) pass.0 keeps.rises) less e f refl (sym same)
 
-  counted : (p : ℕ) (x : Entry) → slice_get history p ≡ Some x → IsRequest (asks_at x) → 1 ≤ x.1.1.sequence
+  counted : (p : ℕ) (x : StoreEntry) → slice_get history p ≡ Some x → IsNoStop (asks_at x) → 1 ≤ x.1.1.sequence
   counted p x e is = ((asker p x e).drawn is).1.0
 
   -- for what a put was asked
-  pub record Putting (x : Entry) (r : Record) : Type 0 where
+  pub record Putting (x : StoreEntry) (r : Record) : Type 0 where
     pub worker : Worker
     pub here : slice_get workers x.0 ≡ Some worker
     pub draw : Draw
@@ -148,10 +148,10 @@ module _ (b : StoreBasis) (end : Trail StoreAsk StoreTold) (history : List Entry
     pub of_is : slice_get links r.link ≡ Some of
     pub owner : of.worker ≡ x.0
 
-  putting : (p : ℕ) (x : Entry) (r : Record) → slice_get history p ≡ Some x → asks_at x ≡ Puts r → Putting x r
+  putting : (p : ℕ) (x : StoreEntry) (r : Record) → slice_get history p ≡ Some x → asks_at x ≡ Puts r → Putting x r
   putting p x r e is =
       let a = asker p x e in
-      let d = a.drawn (subst IsRequest (sym is) tt) in
+      let d = a.drawn (subst IsNoStop (sym is) tt) in
       let parts = put_of d.0.link d.0.index d.0.request r (d.2 ∙ ap Some is) in
       let zero_more : 0 + x.0 ≡ x.0 = omega arith in
       let own = all_at (IsForOwn links (0 + x.0)) a.worker.draws (x.1.1.sequence - 1) d.0 (placed_at (λ n w. AllByRecursion (IsForOwn links n) w.draws) 0 workers x.0 a.worker ends.own a.here) d.1.1 in
@@ -180,7 +180,7 @@ module _ (b : StoreBasis) (end : Trail StoreAsk StoreTold) (history : List Entry
       let zero_more : 0 + link ≡ link = omega arith in
       record { worker = h.0; here = h.1; keeps = subst (λ l. LinkKeeps b h.0 l k) zero_more h.2 }
 
-  put_asked : (p : ℕ) (x : Entry) (r : Record) → slice_get history p ≡ Some x → asks_at x ≡ Puts r → IsAsked talks r
+  put_asked : (p : ℕ) (x : StoreEntry) (r : Record) → slice_get history p ≡ Some x → asks_at x ≡ Puts r → IsAsked talks r
   put_asked p x r e is =
       let h = putting p x r e is in
       let s = speaking r.link h.of h.of_is in
@@ -190,7 +190,7 @@ module _ (b : StoreBasis) (end : Trail StoreAsk StoreTold) (history : List Entry
       let at : slice_get h.of.drawn r.index ≡ Some (Request_of (Put r.key r.value)) = ap (slice_get h.of.drawn) (sym h.index_is) ∙ asked ∙ ap Some h.request in
       (t.0, t.1, ap (λ (l : List Asked). slice_get l r.index) t.2.1.1 ∙ get_left h.of.drawn t.2.1.0 r.index (Request_of (Put r.key r.value)) at)
 
-  put_once : (p q : ℕ) (x y : Entry) (r s : Record) → slice_get history p ≡ Some x → slice_get history q ≡ Some y → asks_at x ≡ Puts r → asks_at y ≡ Puts s → r.link ≡ s.link → r.index ≡ s.index → p ≡ q
+  put_once : (p q : ℕ) (x y : StoreEntry) (r s : Record) → slice_get history p ≡ Some x → slice_get history q ≡ Some y → asks_at x ≡ Puts r → asks_at y ≡ Puts s → r.link ≡ s.link → r.index ≡ s.index → p ≡ q
   put_once p q x y r s e f is too links_are indexes_are =
       let h = putting p x r e is in
       let k = putting q y s f too in
@@ -203,8 +203,8 @@ module _ (b : StoreBasis) (end : Trail StoreAsk StoreTold) (history : List Entry
       let some = h.drawn.0 in
       let more = k.drawn.0 in
       let same : x.1.1.sequence ≡ y.1.1.sequence = omega (arith, number) in
-      let is_ask : IsRequest (asks_at x) = subst IsRequest (sym is) tt in
-      let too_ask : IsRequest (asks_at y) = subst IsRequest (sym too) tt in
+      let is_ask : IsNoStop (asks_at x) = subst IsNoStop (sym is) tt in
+      let too_ask : IsNoStop (asks_at y) = subst IsNoStop (sym too) tt in
       elim (cases_lt p q) [
         | inl less ↦ let r = rises p q x y less e f owner is_ask too_ask in absurd (omega (arith, same))
         | inr not_less ↦ elim (cases_lt q p) [

@@ -13,7 +13,7 @@ use Rattle.demi_memq.specs.declared.op.MemOp.{MemOp}
 use Rattle.demi_memq.specs.declared.op.MemOp.TheVariants.{Queue, Push, Pop, Close, Stop}
 use Rattle.demi_memq.specs.declared.out.MemOut.{MemOut}
 use Rattle.demi_memq.specs.declared.out.MemOut.TheVariants.{Pushed, Closed, QueueFull, BadQueue, Item, Stopped}
-use Rattle.demi_served.specs.Sharing.{MemEntry, number_of, IsDone, Shared, Got}
+use Rattle.demi_served.specs.Sharing.{MemEntry, number_of, Did, Shared, Got}
 use Rattle.demi_served.proofs.Lists.{some_is, parted, get_within, get_left}
 
 -- what was pushed on queue 0, and how often it was popped

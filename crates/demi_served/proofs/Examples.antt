@@ -20,9 +20,9 @@ use Rattle.demi_store.specs.declared.op.StoreOp.TheVariants as op
 use Rattle.demi_store.specs.declared.told.StoreTold.{StoreTold}
 use Rattle.demi_served.specs.Talks.{LinkRun, Run, Talk}
 use Rattle.demi_served.specs.Answers.{Answers}
-use Rattle.demi_served.specs.Served.{NeverFalls, InStep, Apart, Served, Whole, WholeTalk}
+use Rattle.demi_served.specs.Served.{NeverFalls, InStep, OfTwoRequests, Served, Whole, WholeTalk}
 use Rattle.demi_served.specs.Asking.{asks_for}
-use Rattle.demi_served.specs.Accounts.{Entry, IsLater, IsNext, Accounted}
+use Rattle.demi_served.specs.Accounts.{StoreEntry, IsLater, IsNext, Accounted}
 use Rattle.demi_served.specs.Keeps.{Worker, Link, WorkerKeeps}
 use Rattle.demi_served.specs.Ends.{StoreEnds}
 use Rattle.demi_served.specs.Alone.{AskedAll}
@@ -63,7 +63,7 @@ module _ (heap : HeapId) where
   abbrev stop : StoreAsk
   stop = record { sequence = 0; op = op.Stop }
 
-  abbrev history : List Entry
+  abbrev history : List StoreEntry
   history = (0, (0, put)) ∷ (0, (1, get)) ∷ (0, (2, stop)) ∷ []
 
   abbrev end : Trail StoreAsk StoreTold
@@ -79,10 +79,10 @@ module _ (heap : HeapId) where
   abbrev link : Link
   link = record { worker = 0; drawn = asks; replies = replies }
 
-  entries : (p : ℕ) (e : Entry) → get_elem? history p ≡ some e → e.0 < 1
-  entries zero e h = let n : 0 ≡ e.0 = ap (λ (x : Entry). x.0) (some-injective _ _ h) in omega (arith, n)
-  entries (suc zero) e h = let n : 0 ≡ e.0 = ap (λ (x : Entry). x.0) (some-injective _ _ h) in omega (arith, n)
-  entries (suc (suc zero)) e h = let n : 0 ≡ e.0 = ap (λ (x : Entry). x.0) (some-injective _ _ h) in omega (arith, n)
+  entries : (p : ℕ) (e : StoreEntry) → get_elem? history p ≡ some e → e.0 < 1
+  entries zero e h = let n : 0 ≡ e.0 = ap (λ (x : StoreEntry). x.0) (some-injective _ _ h) in omega (arith, n)
+  entries (suc zero) e h = let n : 0 ≡ e.0 = ap (λ (x : StoreEntry). x.0) (some-injective _ _ h) in omega (arith, n)
+  entries (suc (suc zero)) e h = let n : 0 ≡ e.0 = ap (λ (x : StoreEntry). x.0) (some-injective _ _ h) in omega (arith, n)
   entries (suc (suc (suc p))) e h = absurd (cc)
 
   -- the ends of a session can be so
@@ -181,7 +181,7 @@ a_full_reply_below_the_limit_is_refused : Answers run 0 0 (Request_of (Put (0x61
 a_full_reply_below_the_limit_is_refused h = let e = h.said in absurd (cc)
 
 -- Records and numbers.
-a_record_appended_twice_is_refused : Apart kept kept → ⊥
+a_record_appended_twice_is_refused : OfTwoRequests kept kept → ⊥
 a_record_appended_twice_is_refused h = h refl refl
 
 a_number_used_twice_is_refused : InStep (record { worker = 1; sequence = 4; answer = Bye }) (record { worker = 1; sequence = 4; answer = Bye }) → ⊥

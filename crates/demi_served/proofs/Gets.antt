@@ -12,7 +12,7 @@ use Rattle.demi_memq.specs.declared.op.MemOp.{MemOp}
 use Rattle.demi_memq.specs.declared.op.MemOp.TheVariants.{Push, Pop}
 use Rattle.demi_memq.specs.declared.out.MemOut.{MemOut}
 use Rattle.demi_memq.specs.declared.out.MemOut.TheVariants.{Pushed, Closed, Item, BadQueue, Stopped}
-use Rattle.demi_served.specs.Sharing.{MemEntry, number_of, IsDone, Shared, Got}
+use Rattle.demi_served.specs.Sharing.{MemEntry, number_of, Did, Shared, Got}
 use Rattle.demi_served.proofs.Lists.{some_is, parted, get_within, get_left}
 use Rattle.demi_served.proofs.Counting.{items, adds_item, adds_pop, Counted, PopTold, pop_told, push_told, counts_one}
 

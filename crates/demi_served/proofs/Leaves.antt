@@ -22,7 +22,7 @@ use Rattle.demi_store.specs.declared.told.StoreTold.{StoreTold}
 use Rattle.demi_store.specs.declared.told.StoreTold.TheVariants.{ByDisk, ByMemory}
 use Rattle.demi_served.specs.Talks.{Run, Talk}
 use Rattle.demi_served.specs.Asking.{Ask, Puts, Gets, Stops, asks_for, ask_of, plain_answer}
-use Rattle.demi_served.specs.Accounts.{Entry, asks_at, asked_in, standing_at_end, IsLeft, IsRequest, IsLater, IsAccounted, Accounted}
+use Rattle.demi_served.specs.Accounts.{StoreEntry, asks_at, asked_in, standing_at_end, IsLeft, IsNoStop, IsLater, IsAccounted, Accounted}
 use Rattle.demi_served.specs.Keeps.{Draw, Worker, Link, of_link, numbered, RepliesKeep}
 use Rattle.demi_served.specs.Steps.{new_worker, after_draw, after_ask, after_stop}
 use Rattle.demi_served.specs.Ends.{IsForOwn, IsTalkOf, StoreEnds}
@@ -46,8 +46,8 @@ stops_keep limit f place s (x ∷ stops) h =
     go None = refl
     go (Some at) = refl
 
-module _ (b : StoreBasis) (history : List Entry) (trail : List (ℕ × StoreTold)) (alone : (p : ℕ) (e : Entry) → slice_get history p ≡ Some e → e.0 ≡ 0)
-    (rises : (p q : ℕ) (x y : Entry) → p < q → slice_get history p ≡ Some x → slice_get history q ≡ Some y → x.0 ≡ y.0 → IsLater x.1.1 y.1.1) (stops : List Numbered) (are_stops : AllByRecursion (λ x. x.ask ≡ Stops) stops) where
+module _ (b : StoreBasis) (history : List StoreEntry) (trail : List (ℕ × StoreTold)) (alone : (p : ℕ) (e : StoreEntry) → slice_get history p ≡ Some e → e.0 ≡ 0)
+    (rises : (p q : ℕ) (x y : StoreEntry) → p < q → slice_get history p ≡ Some x → slice_get history q ≡ Some y → x.0 ≡ y.0 → IsLater x.1.1 y.1.1) (stops : List Numbered) (are_stops : AllByRecursion (λ x. x.ask ≡ Stops) stops) where
   abbrev pub all_asks : List Ask
   all_asks = asked_in (says history)
 
@@ -171,8 +171,8 @@ serial_push i limit records (x ∷ qs) q =
     ap (λ (l : List Record). new ++ l) (serial_push (i + 1) limit (records ++ new) qs q ∙ ap (λ m. more ++ added (records ++ new ++ more) limit 0 m q) n ∙ ap (λ (l : List Record). more ++ added l limit 0 (i + length (x ∷ qs)) q) (append_assoc records new more))
     ∙ sym (append_assoc new more (added (records ++ (new ++ more)) limit 0 (i + length (x ∷ qs)) q))
 
-module _ (b : StoreBasis) (history : List Entry) (trail : List (ℕ × StoreTold)) (alone : (p : ℕ) (e : Entry) → slice_get history p ≡ Some e → e.0 ≡ 0)
-    (rises : (p q : ℕ) (x y : Entry) → p < q → slice_get history p ≡ Some x → slice_get history q ≡ Some y → x.0 ≡ y.0 → IsLater x.1.1 y.1.1) (stops : List Numbered) (are_stops : AllByRecursion (λ x. x.ask ≡ Stops) stops) where
+module _ (b : StoreBasis) (history : List StoreEntry) (trail : List (ℕ × StoreTold)) (alone : (p : ℕ) (e : StoreEntry) → slice_get history p ≡ Some e → e.0 ≡ 0)
+    (rises : (p q : ℕ) (x y : StoreEntry) → p < q → slice_get history p ≡ Some x → slice_get history q ≡ Some y → x.0 ≡ y.0 → IsLater x.1.1 y.1.1) (stops : List Numbered) (are_stops : AllByRecursion (λ x. x.ask ≡ Stops) stops) where
   abbrev pub asks_all : List Ask
   asks_all = asked_in (says history)
 

@@ -22,7 +22,7 @@ use Rattle.demi_store.specs.declared.told.StoreTold.{StoreTold}
 use Rattle.demi_store.specs.declared.told.StoreTold.TheVariants.{ByDisk, ByMemory}
 use Rattle.demi_served.specs.Talks.{Run, Talk}
 use Rattle.demi_served.specs.Asking.{Ask, Puts, Gets, Stops, asks_for, ask_of, plain_answer}
-use Rattle.demi_served.specs.Accounts.{Entry, asks_at, asked_in, standing_at_end, IsLeft, IsRequest, IsLater, IsAccounted, Accounted}
+use Rattle.demi_served.specs.Accounts.{StoreEntry, asks_at, asked_in, standing_at_end, IsLeft, IsNoStop, IsLater, IsAccounted, Accounted}
 use Rattle.demi_served.specs.Keeps.{Draw, Worker, Link, of_link, numbered, RepliesKeep}
 use Rattle.demi_served.specs.Steps.{new_worker, after_draw, after_ask, after_stop}
 use Rattle.demi_served.specs.Ends.{IsForOwn, IsTalkOf, StoreEnds}
@@ -49,7 +49,7 @@ first_of : {X : Type 0} (x y : X) (i : ℕ) → slice_get (x ∷ []) i ≡ Some 
 first_of x y zero e = (refl, some_is e)
 first_of x y (suc i) e = absurd (cc)
 
-module _ (b : StoreBasis) (end : Trail StoreAsk StoreTold) (history : List Entry) (w : Worker) (k : Link) (run : Run) (t : Talk) (ends : StoreEnds b end history (w ∷ []) (k ∷ []) run (t ∷ [])) (asked : AskedAll w) where
+module _ (b : StoreBasis) (end : Trail StoreAsk StoreTold) (history : List StoreEntry) (w : Worker) (k : Link) (run : Run) (t : Talk) (ends : StoreEnds b end history (w ∷ []) (k ∷ []) run (t ∷ [])) (asked : AskedAll w) where
   abbrev stops : List Numbered
   stops = asked.stops
 
@@ -59,7 +59,7 @@ module _ (b : StoreBasis) (end : Trail StoreAsk StoreTold) (history : List Entry
   talk : IsTalkOf k t
   talk = ends.talked.0
 
-  pub only : (p : ℕ) (e : Entry) → slice_get history p ≡ Some e → e.0 ≡ 0
+  pub only : (p : ℕ) (e : StoreEntry) → slice_get history p ≡ Some e → e.0 ≡ 0
   only p e at = let less = ends.closed.entries p e (get_elem history p e at) in omega arith
 
   record Speaks : Type 0 where

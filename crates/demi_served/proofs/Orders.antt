@@ -22,7 +22,7 @@ use Rattle.demi_store.specs.declared.told.StoreTold.{StoreTold}
 use Rattle.demi_store.specs.declared.told.StoreTold.TheVariants.{ByDisk, ByMemory}
 use Rattle.demi_served.specs.Talks.{Run, Talk}
 use Rattle.demi_served.specs.Asking.{Ask, Puts, Gets, Stops, asks_for, ask_of, plain_answer}
-use Rattle.demi_served.specs.Accounts.{Entry, asks_at, asked_in, standing_at_end, IsLeft, IsRequest, IsLater, IsAccounted, Accounted}
+use Rattle.demi_served.specs.Accounts.{StoreEntry, asks_at, asked_in, standing_at_end, IsLeft, IsNoStop, IsLater, IsAccounted, Accounted}
 use Rattle.demi_served.specs.Keeps.{Draw, Worker, Link, of_link, numbered, RepliesKeep}
 use Rattle.demi_served.specs.Steps.{new_worker, after_draw, after_ask, after_stop}
 use Rattle.demi_served.specs.Ends.{IsForOwn, IsTalkOf, StoreEnds}
@@ -57,13 +57,13 @@ pub wants_are : (history : List StoreAsk) → wants (asked_by history) ≡ asked
 wants_are [] = refl
 wants_are (s ∷ history) = ap (λ (l : List Ask). asks_for s.op ∷ l) (wants_are history)
 
-entry_of : (history : List Entry) (p : ℕ) (x : Numbered) → slice_get (asked_by (says history)) p ≡ Some x → (e : Entry) × (slice_get history p ≡ Some e) × (numbered_ask e.1.1 ≡ x)
+entry_of : (history : List StoreEntry) (p : ℕ) (x : Numbered) → slice_get (asked_by (says history)) p ≡ Some x → (e : StoreEntry) × (slice_get history p ≡ Some e) × (numbered_ask e.1.1 ≡ x)
 entry_of [] p x e = absurd (cc)
 entry_of (y ∷ history) zero x e = (y, refl, some_is e)
 entry_of (y ∷ history) (suc p) x e = entry_of history p x e
 
-module _ (b : StoreBasis) (history : List Entry) (trail : List (ℕ × StoreTold)) (alone : (p : ℕ) (e : Entry) → slice_get history p ≡ Some e → e.0 ≡ 0)
-    (rises : (p q : ℕ) (x y : Entry) → p < q → slice_get history p ≡ Some x → slice_get history q ≡ Some y → x.0 ≡ y.0 → IsLater x.1.1 y.1.1) (stops : List Numbered) where
+module _ (b : StoreBasis) (history : List StoreEntry) (trail : List (ℕ × StoreTold)) (alone : (p : ℕ) (e : StoreEntry) → slice_get history p ≡ Some e → e.0 ≡ 0)
+    (rises : (p q : ℕ) (x y : StoreEntry) → p < q → slice_get history p ≡ Some x → slice_get history q ≡ Some y → x.0 ≡ y.0 → IsLater x.1.1 y.1.1) (stops : List Numbered) where
   abbrev pub before : ℕ → Standing
   before p = below b.limit (struck_at trail) b.records (asked_in (says history)) p
 
@@ -78,7 +78,7 @@ module _ (b : StoreBasis) (history : List Entry) (trail : List (ℕ × StoreTold
   RepliesFrom i (q ∷ qs) (r ∷ rs) = (r.worker ≡ 0) × (r.sequence ≡ i + 1) × IsAccounted b history trail q r (ask_of 0 i q) × RepliesFrom (i + 1) qs rs
 
   -- one number is that of one place
-  one_place : (p q : ℕ) (x y : Entry) → slice_get history p ≡ Some x → slice_get history q ≡ Some y → IsRequest (asks_at x) → IsRequest (asks_at y) → x.1.1.sequence ≡ y.1.1.sequence → p ≡ q
+  one_place : (p q : ℕ) (x y : StoreEntry) → slice_get history p ≡ Some x → slice_get history q ≡ Some y → IsNoStop (asks_at x) → IsNoStop (asks_at y) → x.1.1.sequence ≡ y.1.1.sequence → p ≡ q
   one_place p q x y e f a c same =
       let workers : x.0 ≡ y.0 = alone p x e ∙ sym (alone q y f) in
       elim (cases_lt p q) [
@@ -97,7 +97,7 @@ module _ (b : StoreBasis) (history : List Entry) (trail : List (ℕ × StoreTold
       let y = placing b history trail r ask h.0 h.1 in
       let mine : asks_at x.0 ≡ ask = ap (λ (z : Numbered). z.ask) x.2 in
       let my_number : x.0.1.1.sequence ≡ i + 1 = ap (λ (z : Numbered). z.sequence) x.2 in
-      let place : y.place ≡ p = one_place y.place p y.entry x.0 y.here x.1 (subst IsRequest (sym y.is) (is_request 0 i q ask is)) (subst IsRequest (sym mine) (is_request 0 i q ask is)) (y.sequence ∙ number ∙ sym my_number) in (
+      let place : y.place ≡ p = one_place y.place p y.entry x.0 y.here x.1 (subst IsNoStop (sym y.is) (is_request 0 i q ask is)) (subst IsNoStop (sym mine) (is_request 0 i q ask is)) (y.sequence ∙ number ∙ sym my_number) in (
         asked_at (says history) p x.0.1.1 (says_at history p x.0 x.1) ∙ ap Some mine,
         ap (λ m. storeresult b.limit b.records (struck_at trail) (asked_in (says history)) m ask) (sym place) ∙ y.said,
       )

@@ -15,18 +15,18 @@ use Rattle.demi_store.specs.declared.ask.StoreAsk.{StoreAsk}
 use Rattle.demi_store.specs.declared.told.StoreTold.{StoreTold}
 use Rattle.demi_served.specs.Talks.{Run, Talk}
 use Rattle.demi_served.specs.Answers.{Answers, AnswersEach, version_of, is_stored}
-use Rattle.demi_served.specs.Served.{Pairwise, NeverFalls, InStep, Versions, Consistent, Recorded, IsAsked, Apart}
+use Rattle.demi_served.specs.Served.{Pairwise, NeverFalls, InStep, Versions, Consistent, Recorded, IsAsked, OfTwoRequests}
 use Rattle.demi_served.specs.Asking.{Ask, Puts, Gets, Stops, asks_for, ask_of, plain_answer}
-use Rattle.demi_served.specs.Accounts.{Entry, asks_at, asked_in, IsAnsweredAt, IsAccounted, IsRequest, IsNext, IsLeft, Accounted}
+use Rattle.demi_served.specs.Accounts.{StoreEntry, asks_at, asked_in, IsAnsweredAt, IsAccounted, IsNoStop, IsNext, IsLeft, Accounted}
 use Rattle.demi_served.proofs.Lists.{some_is, all_by, all_at, placed_by, pairwise_by, pairwise_at, all_flat, pairwise_flat}
 use Rattle.demi_served.proofs.Folds.{standing_from, storeresult, stored_from, history_adds, result_is, end_is}
 use Rattle.demi_served.proofs.Places.{Telling, answers_by_place, versions_by_place}
 use Rattle.demi_served.proofs.Comes.{FromPuts, records_come}
 
 -- what stands at a place, of entries, of what they say and of what is asked
-pub says_at : (history : List Entry) (p : ℕ) (x : Entry) → slice_get history p ≡ Some x → slice_get (says history) p ≡ Some x.1.1
+pub says_at : (history : List StoreEntry) (p : ℕ) (x : StoreEntry) → slice_get history p ≡ Some x → slice_get (says history) p ≡ Some x.1.1
 says_at [] p x e = absurd (cc)
-says_at (y ∷ history) zero x e = ap (λ (z : Entry). Some z.1.1) (some_is e)
+says_at (y ∷ history) zero x e = ap (λ (z : StoreEntry). Some z.1.1) (some_is e)
 says_at (y ∷ history) (suc p) x e = says_at history p x e
 
 pub asked_at : (history : List StoreAsk) (p : ℕ) (x : StoreAsk) → slice_get history p ≡ Some x → slice_get (asked_in history) p ≡ Some (asks_for x.op)
@@ -34,25 +34,25 @@ asked_at [] p x e = absurd (cc)
 asked_at (y ∷ history) zero x e = ap (λ (z : StoreAsk). Some (asks_for z.op)) (some_is e)
 asked_at (y ∷ history) (suc p) x e = asked_at history p x e
 
-pub entry_at : (history : List Entry) (p : ℕ) (a : Ask) → slice_get (asked_in (says history)) p ≡ Some a → (x : Entry) × (slice_get history p ≡ Some x) × (asks_at x ≡ a)
+pub entry_at : (history : List StoreEntry) (p : ℕ) (a : Ask) → slice_get (asked_in (says history)) p ≡ Some a → (x : StoreEntry) × (slice_get history p ≡ Some x) × (asks_at x ≡ a)
 entry_at [] p a e = absurd (cc)
 entry_at (y ∷ history) zero a e = (y, refl, some_is e)
 entry_at (y ∷ history) (suc p) a e = entry_at history p a e
 
-pub is_request : (link index : ℕ) (q : Asked) (ask : Ask) → ask_of link index q ≡ Some ask → IsRequest ask
-is_request link index (Request_of (Put key value)) ask e = subst IsRequest (some_is e) tt
-is_request link index (Request_of (Get key)) ask e = subst IsRequest (some_is e) tt
+pub is_request : (link index : ℕ) (q : Asked) (ask : Ask) → ask_of link index q ≡ Some ask → IsNoStop ask
+is_request link index (Request_of (Put key value)) ask e = subst IsNoStop (some_is e) tt
+is_request link index (Request_of (Get key)) ask e = subst IsNoStop (some_is e) tt
 is_request link index (Request_of End) ask e = absurd (cc)
 is_request link index (Refused_end code) ask e = absurd (cc)
 
-module _ (b : StoreBasis) (history : List Entry) (trail : List (ℕ × StoreTold)) where
+module _ (b : StoreBasis) (history : List StoreEntry) (trail : List (ℕ × StoreTold)) where
   abbrev pub asks : List Ask
   asks = asked_in (says history)
 
   -- where a reply was asked, and what is said there
   pub record Placing (r : Reply) (ask : Ask) : Type 0 where
     pub place : ℕ
-    pub entry : Entry
+    pub entry : StoreEntry
     pub here : slice_get history place ≡ Some entry
     pub worker : entry.0 ≡ r.worker
     pub sequence : entry.1.1.sequence ≡ r.sequence
@@ -132,12 +132,12 @@ module _ (b : StoreBasis) (history : List Entry) (trail : List (ℕ × StoreTold
       | inr not_before ↦ elim (cases_lt o.place p.place) [
         | inl after ↦
             let workers : o.entry.0 ≡ p.entry.0 = o.worker ∙ sym same ∙ sym p.worker in
-            let falls = acc.rises o.place p.place o.entry p.entry after o.here p.here workers (subst IsRequest (sym o.is) (is_request m j x c of_c)) (subst IsRequest (sym p.is) (is_request l i q a of_a)) in
+            let falls = acc.rises o.place p.place o.entry p.entry after o.here p.here workers (subst IsNoStop (sym o.is) (is_request m j x c of_c)) (subst IsNoStop (sym p.is) (is_request l i q a of_a)) in
             absurd (omega (arith, p.sequence, o.sequence))
         | inr not_after ↦
             let places : p.place ≡ o.place = omega arith in
             let entries : p.entry ≡ o.entry = some_is (sym p.here ∙ ap (slice_get history) places ∙ o.here) in
-            let numbers : p.entry.1.1.sequence ≡ o.entry.1.1.sequence = ap (λ (x : Entry). x.1.1.sequence) entries in
+            let numbers : p.entry.1.1.sequence ≡ o.entry.1.1.sequence = ap (λ (x : StoreEntry). x.1.1.sequence) entries in
             absurd (omega (arith, p.sequence, o.sequence, numbers))
       ]
     ]
@@ -207,19 +207,19 @@ module _ (b : StoreBasis) (history : List Entry) (trail : List (ℕ × StoreTold
     all_asked n m [] h = tt
     all_asked n m (r ∷ records) h = (put_asked h.0 r h.2, all_asked (h.0 + 1) m records h.3)
 
-    all_apart : (p n m : ℕ) (r : Record) (records : List Record) → slice_get asks p ≡ Some (Puts r) → p < n → FromPuts asks n records m → AllByRecursion (Apart r) records
+    all_apart : (p n m : ℕ) (r : Record) (records : List Record) → slice_get asks p ≡ Some (Puts r) → p < n → FromPuts asks n records m → AllByRecursion (OfTwoRequests r) records
     all_apart p n m r [] e less h = tt
     all_apart p n m r (s ∷ records) e less h =
         (apart, all_apart p (h.0 + 1) m r records e (let le = h.1 in omega arith) h.3)
       where
-        apart : Apart r s
+        apart : OfTwoRequests r s
         apart links indexes =
             let x = entry_at history p (Puts r) e in
             let y = entry_at history h.0 (Puts s) h.2 in
             let same : p ≡ h.0 = acc.once p h.0 x.0 y.0 r s x.1 y.1 x.2 y.2 links indexes in
             let le = h.1 in absurd (omega (arith, same))
 
-    once : (n m : ℕ) (records : List Record) → FromPuts asks n records m → Pairwise Apart records
+    once : (n m : ℕ) (records : List Record) → FromPuts asks n records m → Pairwise OfTwoRequests records
     once n m [] h = tt
     once n m (r ∷ records) h = (all_apart h.0 (h.0 + 1) m r records h.2 (omega arith) h.3, once (h.0 + 1) m records h.3)
 
@@ -229,5 +229,5 @@ module _ (b : StoreBasis) (history : List Entry) (trail : List (ℕ × StoreTold
         let come = records_come b.limit (struck_at trail) b.records asks acc.logged.extra left in
         record {
           asked = subst (AllByRecursion (IsAsked talks)) (sym new_records) (all_asked 0 come.0 _ come.1);
-          once = subst (Pairwise Apart) (sym new_records) (once 0 come.0 _ come.1);
+          once = subst (Pairwise OfTwoRequests) (sym new_records) (once 0 come.0 _ come.1);
         }

@@ -19,7 +19,7 @@ use Rattle.demi_store.specs.declared.told.StoreTold.{StoreTold}
 use Rattle.demi_served.specs.Talks.{LinkRun, Run, Talk, all_of}
 use Rattle.demi_served.specs.Served.{Placed, Whole, WholeTalk, same_worker, stored_as, stores_as}
 use Rattle.demi_served.specs.Asking.{Ask, Puts, ask_of}
-use Rattle.demi_served.specs.Accounts.{Entry, asked_in, Logged, IsLeft, IsAccounted, Accounted}
+use Rattle.demi_served.specs.Accounts.{StoreEntry, asked_in, LeftInLog, IsLeft, IsAccounted, Accounted}
 use Rattle.demi_served.specs.Keeps.{Draw, Worker, Link, of_link, numbered}
 use Rattle.demi_served.specs.Ends.{IsForOwn, IsTalkOf, StoreEnds}
 use Rattle.demi_served.proofs.Lists.{some_is, all_at, all_by, all_flat, placed_at, placed_by, get_within}
@@ -131,7 +131,7 @@ whole_long [] (t ∷ talks) h = absurd h
 whole_long (l ∷ links) [] h = absurd h
 whole_long (l ∷ links) (t ∷ talks) h = (h.0.each, whole_long links talks h.1)
 
-module _ (b : StoreBasis) (history : List Entry) (trail : List (ℕ × StoreTold)) (run : Run) (talks : List Talk) (acc : Accounted b history trail run talks) where
+module _ (b : StoreBasis) (history : List StoreEntry) (trail : List (ℕ × StoreTold)) (run : Run) (talks : List Talk) (acc : Accounted b history trail run talks) where
   abbrev pub asked_all : List Ask
   asked_all = asked_in (says history)
 
@@ -200,7 +200,7 @@ module _ (b : StoreBasis) (history : List Entry) (trail : List (ℕ × StoreTold
   versions_stand long v [] h = tt
   versions_stand long v (r ∷ rs) h = (put_replied long v r h.0, versions_stand long (v + 1) rs h.1)
 
-  pub stored : AllReplied → (logged : Logged b (says history) trail run.records) → logged.extra ≡ [] → Placed (λ v r. IsTrue (list_any (stored_as v) (all_of talks))) (run.old + 1) (drop run.old run.records)
+  pub stored : AllReplied → (logged : LeftInLog b (says history) trail run.records) → logged.extra ≡ [] → Placed (λ v r. IsTrue (list_any (stored_as v) (all_of talks))) (run.old + 1) (drop run.old run.records)
   stored long logged none =
       let added : List Record = stored_from b.limit (struck_at trail) 0 (opened b.records) asked_all in
       let new : drop run.old run.records ≡ added =
@@ -210,7 +210,7 @@ module _ (b : StoreBasis) (history : List Entry) (trail : List (ℕ × StoreTold
       subst (λ n. Placed (λ v r. IsTrue (list_any (stored_as v) (all_of talks))) (n + 1) (drop run.old run.records)) acc.old
       (subst (Placed (λ v r. IsTrue (list_any (stored_as v) (all_of talks))) (length b.records + 1)) (sym new) (versions_stand long (length b.records + 1) added (all_stored b.limit (struck_at trail) b.records asked_all)))
 
-module _ (b : StoreBasis) (end : Trail StoreAsk StoreTold) (history : List Entry) (workers : List Worker) (links : List Link) (run : Run) (talks : List Talk) (ends : StoreEnds b end history workers links run talks) where
+module _ (b : StoreBasis) (end : Trail StoreAsk StoreTold) (history : List StoreEntry) (workers : List Worker) (links : List Link) (run : Run) (talks : List Talk) (ends : StoreEnds b end history workers links run talks) where
   -- of each link no more numbers were drawn by a worker than replies of that worker stand there
   few : AllByRecursion (λ k. length k.drawn ≡ length k.replies) links → (n : ℕ) (w : Worker) → slice_get workers n ≡ Some w → (r : Reply) → r.worker ≡ n → (l : ℕ) (t : Talk) → slice_get talks l ≡ Some t → length (of_link l w.draws) ≤ count_by (same_worker r) t.replies
   few even n w here r is l t e =

@@ -28,7 +28,7 @@ use Rattle.demi_store.specs.declared.out.StoreOut.{StoreOut}
 use Rattle.demi_store.specs.declared.told.StoreTold.{StoreTold}
 use Rattle.demi_store.specs.declared.told.StoreTold.TheVariants.{ByDisk, ByMemory}
 use Rattle.demi_served.specs.Asking.{Ask, Puts, Gets, Stops, asks_for}
-use Rattle.demi_served.specs.Accounts.{asked_in, standing_at_end, IsLeft, Logged}
+use Rattle.demi_served.specs.Accounts.{asked_in, standing_at_end, IsLeft, LeftInLog}
 use Rattle.demi_served.specs.LogEnds.{IsTorn, LogEnds}
 use Rattle.demi_served.proofs.Lists.{some_is}
 use Rattle.demi_served.proofs.Folds.{said_open, said_by, said_at, standing_from, added_by, stored_from, history_adds, result_is, end_is}

@@ -20,7 +20,7 @@ use Rattle.demi_store.specs.declared.told.StoreTold.{StoreTold}
 
 -- what is asked of the store: to keep the record of a put, to look a key up, or to stop
 pub data Ask : Type 0 where
-  Puts : (record_ : Record) → Ask
+  Puts : (r : Record) → Ask
   Gets : (key : List ℕ) → Ask
   Stops : Ask
 

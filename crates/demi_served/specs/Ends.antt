@@ -12,7 +12,7 @@ use Rattle.demi_store.specs.declared.ask.StoreAsk.{StoreAsk}
 use Rattle.demi_store.specs.declared.told.StoreTold.{StoreTold}
 use Rattle.demi_served.specs.Talks.{Run, Talk}
 use Rattle.demi_served.specs.Served.{Placed}
-use Rattle.demi_served.specs.Accounts.{Entry, Logged}
+use Rattle.demi_served.specs.Accounts.{StoreEntry, LeftInLog}
 use Rattle.demi_served.specs.Keeps.{Draw, Worker, WorkerKeeps, Link, LinkKeeps}
 
 -- a pass of the store's port, and the port's end, as contracts see them
@@ -36,9 +36,9 @@ PassesOf n workers passes = ⊥
 
 -- The store's port was closed: the device heard all that its history says, each worker's pass has its own entries,
 -- there are no others, and what a pass was handed begins what there is.
-pub record PortClosed (end : Trail StoreAsk StoreTold) (history : List Entry) (workers : List Worker) : Type 0 where
+pub record PortClosed (end : Trail StoreAsk StoreTold) (history : List StoreEntry) (workers : List Worker) : Type 0 where
   pub heard : end.heard ≡ says history
-  pub entries : (p : ℕ) (e : Entry) → get_elem? history p ≡ some e → e.0 < length workers
+  pub entries : (p : ℕ) (e : StoreEntry) → get_elem? history p ≡ some e → e.0 < length workers
   pub passes : Placed (λ n w. (w.submitted ≡ of_pass n 0 history) × Behind end w.known) 0 workers
 
 -- the draw is for a link of the worker of this number
@@ -54,11 +54,11 @@ abbrev pub IsTalkOf : Link → Talk → Type 0
 IsTalkOf k t = (t.replies ≡ k.replies) × StartsWith t.asks k.drawn
 
 -- The ends of a session's store port, its log, its workers and its links.
-pub record StoreEnds (b : StoreBasis) (end : Trail StoreAsk StoreTold) (history : List Entry) (workers : List Worker) (links : List Link) (run : Run) (talks : List Talk) : Type 0 where
+pub record StoreEnds (b : StoreBasis) (end : Trail StoreAsk StoreTold) (history : List StoreEntry) (workers : List Worker) (links : List Link) (run : Run) (talks : List Talk) : Type 0 where
   pub old : length b.records ≡ run.old
   pub limit : b.limit ≡ run.limit
   pub told : b.told ≡ true
-  pub logged : Logged b (says history) end.told run.records
+  pub logged : LeftInLog b (says history) end.told run.records
   pub closed : PortClosed end history workers
   pub kept : AllByRecursion WorkerKeeps workers
   pub own : Placed (λ n w. AllByRecursion (IsForOwn links n) w.draws) 0 workers

@@ -11,7 +11,7 @@ use Rattle.demi_store.specs.declared.ask.StoreAsk.{StoreAsk}
 use Rattle.demi_store.specs.declared.told.StoreTold.{StoreTold}
 use Rattle.demi_served.specs.Served.{Pairwise}
 use Rattle.demi_served.specs.Asking.{Ask, asks_for, ask_of, plain_answer, IsSaid}
-use Rattle.demi_served.specs.Accounts.{IsRequest, IsLater}
+use Rattle.demi_served.specs.Accounts.{IsNoStop, IsLater}
 
 -- for what a worker drew a sequence number: a link, an index on it, and the request there
 pub record Draw : Type 0 where
@@ -32,7 +32,7 @@ IsDrawn draws sequence d = (1 ≤ sequence) × (slice_get draws (sequence - 1) �
 
 -- an operation that is no stop asks what its sequence number was drawn for
 abbrev pub IsOfDraw : List Draw → ℕ × (ℕ × StoreAsk) → Type 0
-IsOfDraw draws x = IsRequest (asks_for x.1.1.op) → (d : Draw) × IsDrawn draws x.1.1.sequence d × (ask_of d.link d.index d.request ≡ Some (asks_for x.1.1.op))
+IsOfDraw draws x = IsNoStop (asks_for x.1.1.op) → (d : Draw) × IsDrawn draws x.1.1.sequence d × (ask_of d.link d.index d.request ≡ Some (asks_for x.1.1.op))
 
 -- of two draws for one link the second has the greater index
 abbrev pub IsFurther : Draw → Draw → Type 0

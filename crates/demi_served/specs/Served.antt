@@ -44,13 +44,13 @@ abbrev pub IsAsked : List Talk → Record → Type 0
 IsAsked talks r = (t : Talk) × (slice_get talks r.link ≡ Some t) × (slice_get t.asks r.index ≡ Some (Request_of (Put r.key r.value)))
 
 -- two records are of different requests
-abbrev pub Apart : Record → Record → Type 0
-Apart a b = a.link ≡ b.link → a.index ≢ b.index
+abbrev pub OfTwoRequests : Record → Record → Type 0
+OfTwoRequests a b = a.link ≡ b.link → a.index ≢ b.index
 
 -- Each new record is one put of one link, and no put has two.
 pub record Recorded (run : Run) (talks : List Talk) : Type 0 where
   pub asked : AllByRecursion (IsAsked talks) (drop run.old run.records)
-  pub once : Pairwise Apart (drop run.old run.records)
+  pub once : Pairwise OfTwoRequests (drop run.old run.records)
 
 -- all replies were written, or all but the end of the last
 abbrev pub Torn : List ℕ → List Reply → Type 0

@@ -19,7 +19,7 @@ abbrev pub number_of : List HalfValue → ℕ
 number_of sga = from_be_bytes w16 (bytes_of sga)
 
 -- at the place p the pass n did this, and it was answered so
-pub record IsDone (history : List MemEntry) (p n : ℕ) (op : MemOp) (out : MemOut) : Type 0 where
+pub record Did (history : List MemEntry) (p n : ℕ) (op : MemOp) (out : MemOut) : Type 0 where
   pub token : ℕ
   pub here : slice_get history p ≡ Some (n, (token, op))
   pub told : result_at 1024 (says history) p ≡ Some out
@@ -27,14 +27,14 @@ pub record IsDone (history : List MemEntry) (p n : ℕ) (op : MemOp) (out : MemO
 -- Each of so many links' numbers was pushed on queue 0, none twice, and no other; and each of so many workers popped there
 -- until it was told that the queue is closed.
 pub record Shared (links workers : ℕ) (history : List MemEntry) : Type 0 where
-  pub each : (l : ℕ) → l < links → (p : ℕ) × (n : ℕ) × (sga : List HalfValue) × IsDone history p n (Push 0 sga) Pushed × (number_of sga ≡ l)
+  pub each : (l : ℕ) → l < links → (p : ℕ) × (n : ℕ) × (sga : List HalfValue) × Did history p n (Push 0 sga) Pushed × (number_of sga ≡ l)
   pub none_else : (p n t : ℕ) (sga : List HalfValue) → slice_get history p ≡ Some (n, (t, Push 0 sga)) → number_of sga < links
   pub once : (p q n m t u : ℕ) (sga next : List HalfValue) → slice_get history p ≡ Some (n, (t, Push 0 sga)) → slice_get history q ≡ Some (m, (u, Push 0 next)) → number_of sga ≡ number_of next → p ≡ q
-  pub closed : (n : ℕ) → n < workers → (p : ℕ) × IsDone history p n (Pop 0) Closed
+  pub closed : (n : ℕ) → n < workers → (p : ℕ) × Did history p n (Pop 0) Closed
 
 -- the worker n got the link l: a pop of its pass got the link's number
 pub record Got (history : List MemEntry) (l n : ℕ) : Type 0 where
   pub place : ℕ
   pub item : List HalfValue
-  pub done : IsDone history place n (Pop 0) (Item item)
+  pub done : Did history place n (Pop 0) (Item item)
   pub number : number_of item ≡ l

@@ -12,7 +12,7 @@ ghost use Rattle.demi_store.specs.declared.ask.StoreAsk.{StoreAsk};
 ghost use Rattle.demi_store.specs.declared.out.StoreOut.{StoreOut};
 ghost use Rattle.demi_store.specs.declared.told.StoreTold.{StoreTold};
 ghost use Rattle.demi_served.specs.Asking.{IsSaid, reply_for};
-ghost use Rattle.demi_served.specs.Accounts.{Entry};
+ghost use Rattle.demi_served.specs.Accounts.{StoreEntry};
 ghost use Rattle.demi_served.specs.Keeps.{Worker};
 ghost use Rattle.demi_served.specs.Ends.{StorePass, StoreEnd, PassesOf, PortClosed};
 
@@ -27,7 +27,7 @@ pub fn an_outcome_is_replied()
 /// What a store's port that was closed ensures of its passes is what is asked of a closed port, where each worker kept
 /// what its own pass submitted and was handed.
 pub fn a_closed_port_has_its_workers()
-    ensures closed { (end : StoreEnd) (workers : List Worker) (passes : List StorePass) → PassesOf 0 workers passes → Each (λ p. p.submitted ≡ of_pass p.number 0 end.history) passes → ((p : ℕ) (e : Entry) → get_elem? end.history p ≡ some e → e.0 < length passes)
+    ensures closed { (end : StoreEnd) (workers : List Worker) (passes : List StorePass) → PassesOf 0 workers passes → Each (λ p. p.submitted ≡ of_pass p.number 0 end.history) passes → ((p : ℕ) (e : StoreEntry) → get_elem? end.history p ≡ some e → e.0 < length passes)
         → end.heard ≡ says end.history → Each (λ p. Behind (known_at end) (known_by p)) passes → PortClosed (known_at end) end.history workers }
 {}
 
