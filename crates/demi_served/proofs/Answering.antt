@@ -1,10 +1,10 @@
 -- What the store on one thread answers on some records stands as the answer on all records that begin with them.
-use Rattle.std.proofs.Common.{◌≡◌, ℕ, ◌+◌, ◌-◌, ◌≤◌, ◌<◌, Bool, true, false, List, [], ◌∷◌, ◌++◌, length, take, Option, None, Some, refl, arith, ◌∙◌, ap, sym, subst, cond, length-append, append_assoc, append-nil}
+use Rattle.std.proofs.Common.{◌≡◌, ℕ, ◌+◌, ◌-◌, ◌≤◌, ◌<◌, Bool, true, false, List, [], ◌∷◌, ◌++◌, length, take, Option, None, Some, arith, ◌∙◌, ap, sym, cond, length-append, append_assoc}
 use Rattle.std.specs.Prelude.{nat_le, IfSome, IsTrue}
 use Rattle.std.proofs.Math.Seq.{take-append_seam}
 use Rattle.demi_spec.specs.Request.{Put, Get, End}
 use Rattle.demi_spec.specs.Input.{Asked, Request_of, Refused_end}
-use Rattle.demi_spec.specs.Reply.{Answer, Stored, Found, Missing, Refused, Bye, Full}
+use Rattle.demi_spec.specs.Reply.{Answer, Stored, Full}
 use Rattle.demi_spec.specs.Record.{Record}
 use Rattle.demi_spec.specs.Store.{answer, added, found}
 use Rattle.demi_spec.specs.Store as store

@@ -1,38 +1,20 @@
 -- One worker that asks with each number that it draws.
-use Rattle.std.proofs.Common.{◌≡◌, ℕ, zero, suc, ◌+◌, ◌-◌, ◌≤◌, ◌<◌, Bool, true, false, List, [], ◌∷◌, ◌++◌, length, take, drop, Option, None, Some, refl, arith, ◌∙◌, ap, sym, subst, cond, append_assoc, append-nil, inl, inr, ◌⊎◌, length-take-le, length-append}
-use Rattle.std.specs.Prelude.{nat_le, slice_get, map, ◌==◌}
-use Rattle.std.specs.List.{AllByRecursion}
+use Rattle.std.proofs.Common.{◌≡◌, ℕ, suc, ◌+◌, Bool, true, List, [], ◌∷◌, ◌++◌, length, Option, None, Some, refl, arith, ◌∙◌, ap, sym, cond, append_assoc, append-nil}
+use Rattle.std.specs.Prelude.{slice_get, map, ◌==◌}
 use Rattle.std.proofs.lemmas.Bool.Decides.{nat_tests}
-use Rattle.std.proofs.lemmas.Bool.{cases_lt}
-use Rattle.std.proofs.lemmas.List.{take-append-drop, take_all, take-append-le}
-use Rattle.std.proofs.Math.Seq.{take-append_seam, drop-append_seam}
 use Rattle.demi_port.specs.Seen.{says}
 use Rattle.demi_port_core.specs.History.{of_pass}
 use Rattle.demi_port_core.specs.declared.trail.Trail.{Trail}
-use Rattle.demi_spec.specs.Request.{Put, Get, End}
-use Rattle.demi_spec.specs.Input.{Asked, Request_of, Refused_end}
-use Rattle.demi_spec.specs.Reply.{Answer, Reply, Stored, Full}
-use Rattle.demi_spec.specs.Record.{Record}
-use Rattle.demi_spec.specs.Store.{answer, added, serial_from}
-use Rattle.demi_store.specs.History.{Said, Told, Fault, NoMemory, Standing, answered, put_open, opened, struck_at}
-use Rattle.demi_store.specs.Laws.{StoreBasis}
+use Rattle.demi_spec.specs.Input.{Asked}
 use Rattle.demi_store.specs.declared.ask.StoreAsk.{StoreAsk}
 use Rattle.demi_store.specs.declared.op.StoreOp.{StoreOp}
 use Rattle.demi_store.specs.declared.told.StoreTold.{StoreTold}
-use Rattle.demi_store.specs.declared.told.StoreTold.TheVariants.{ByDisk, ByMemory}
-use Rattle.demi_served.specs.Talks.{Run, Talk}
-use Rattle.demi_served.specs.Asking.{Ask, Puts, Gets, Stops, asks_for, ask_of, plain_answer}
-use Rattle.demi_served.specs.Accounts.{StoreEntry, asks_at, asked_in, standing_at_end, IsLeft, IsNoStop, IsLater, IsAccounted, Accounted}
-use Rattle.demi_served.specs.Keeps.{Draw, Worker, Link, of_link, numbered, RepliesKeep}
+use Rattle.demi_served.specs.Asking.{Ask, Stops, asks_for, ask_of}
+use Rattle.demi_served.specs.Accounts.{StoreEntry}
+use Rattle.demi_served.specs.Keeps.{Draw, Worker}
 use Rattle.demi_served.specs.Steps.{new_worker, after_draw, after_ask, after_stop, after_handing}
-use Rattle.demi_served.specs.Ends.{IsForOwn, IsTalkOf, StoreEnds}
-use Rattle.demi_served.specs.Alone.{Numbered, numbered_ask, with_ask, asked_with, asked_by, submitted_by, AsksAll, AskedAll}
-use Rattle.demi_served.proofs.Lists.{some_is, all_at, all_by, all_append, get_left}
-use Rattle.demi_served.proofs.Folds.{said_open, said_by, said_at, standing_from, storeresult, history_join, end_is}
-use Rattle.demi_served.proofs.Places.{IsStep, told_step, below, below_next}
-use Rattle.demi_served.proofs.Entries.{get_elem}
-use Rattle.demi_served.proofs.Comes.{step_fault}
-use Rattle.demi_served.proofs.Serves.{says_at, asked_at, is_request, placing}
+use Rattle.demi_served.specs.Alone.{Numbered, numbered_ask, with_ask, asked_with, asked_by, AsksAll, AskedAll}
+use Rattle.demi_served.proofs.Lists.{all_append}
 
 asked_push : (s : ℕ) (draws : List Draw) (d : Draw) → asked_with s (draws ++ d ∷ []) ≡ asked_with s draws ++ with_ask (s + length draws) (ask_of d.link d.index d.request) []
 asked_push s [] d = let n : s ≡ s + 0 = omega arith in ap (λ m. with_ask m (ask_of d.link d.index d.request) []) n

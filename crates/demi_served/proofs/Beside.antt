@@ -1,5 +1,5 @@
 -- What the other links of a worker do is beside a link.
-use Rattle.std.proofs.Common.{◌≡◌, ◌≢◌, ℕ, ◌+◌, ◌≤◌, List, [], ◌∷◌, ◌++◌, length, refl, ◌∙◌, ap, sym, le_refl, le_trans, append_assoc, append-nil}
+use Rattle.std.proofs.Common.{◌≢◌, ℕ, ◌+◌, ◌≤◌, List, [], ◌∷◌, ◌++◌, length, refl, ◌∙◌, ap, sym, le_refl, le_trans, append_assoc, append-nil}
 use Rattle.demi_port_core.specs.Trails.{Behind, NoneBelow}
 use Rattle.demi_port_core.specs.declared.trail.Trail.{Trail}
 use Rattle.demi_spec.specs.Input.{Asked}

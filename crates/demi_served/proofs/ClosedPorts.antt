@@ -1,14 +1,10 @@
 -- What the clauses of a closed port and of its device say together.
-use Rattle.std.proofs.Common.{◌≡◌, ℕ, zero, suc, ◌+◌, ◌<◌, List, [], ◌∷◌, ◌++◌, length, refl, arith, ◌∙◌, ap, sym, subst, append-nil, length-append}
+use Rattle.std.proofs.Common.{◌≡◌, ℕ, suc, ◌+◌, ◌<◌, List, [], ◌∷◌, ◌++◌, length, refl, arith, ◌∙◌, ap, sym, subst, append-nil, length-append}
 use mathlib.Core.Option.{some}
 use lib.ListN.{get_elem?}
-use Rattle.demi_port.specs.Seen.{PassValue, EndValue, known_at, known_by, says}
+use Rattle.demi_port.specs.Seen.{known_at, known_by, says}
 use Rattle.demi_port_core.specs.History.{Each, of_pass}
 use Rattle.demi_port_core.specs.Trails.{StartsWith, Behind}
-use Rattle.demi_port_core.specs.declared.trail.Trail.{Trail}
-use Rattle.demi_store.specs.Laws.{StoreBasis}
-use Rattle.demi_store.specs.declared.ask.StoreAsk.{StoreAsk}
-use Rattle.demi_store.specs.declared.told.StoreTold.{StoreTold}
 use Rattle.demi_served.specs.Served.{Placed}
 use Rattle.demi_served.specs.Accounts.{StoreEntry}
 use Rattle.demi_served.specs.Keeps.{Worker}

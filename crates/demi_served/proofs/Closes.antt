@@ -18,7 +18,7 @@ use Rattle.demi_store.specs.declared.ask.StoreAsk.{StoreAsk}
 use Rattle.demi_store.specs.declared.told.StoreTold.{StoreTold}
 use Rattle.demi_served.specs.Talks.{Run, Talk}
 use Rattle.demi_served.specs.Served.{Pairwise, IsAsked}
-use Rattle.demi_served.specs.Asking.{Ask, Puts, asks_for, ask_of}
+use Rattle.demi_served.specs.Asking.{Ask, Puts, ask_of}
 use Rattle.demi_served.specs.Accounts.{StoreEntry, asks_at, IsAccounted, IsNoStop, IsLater, IsNext, Accounted}
 use Rattle.demi_served.specs.Keeps.{Draw, Worker, IsDrawn, IsOfDraw, IsFurther, IsLaterAsk, WorkerKeeps, Link, LinkKeeps, of_link, numbered, IsReplied, RepliesKeep}
 use Rattle.demi_served.specs.Ends.{IsForOwn, IsKeptBy, IsTalkOf, StoreEnds}

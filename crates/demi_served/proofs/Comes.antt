@@ -1,9 +1,9 @@
 -- The new records of a log come of puts of the history, in rising places.
 use Rattle.std.proofs.Common.{◌≡◌, ℕ, suc, ◌+◌, ◌≤◌, Bool, true, false, List, [], ◌∷◌, ◌++◌, length, take, Option, None, Some, refl, arith, ◌∙◌, ap, sym, subst, cond, inl, inr, ◌⊎◌, le_refl, le_trans, append-nil}
 use Rattle.std.specs.Prelude.{nat_le, slice_get}
-use Rattle.demi_spec.specs.Request.{Put, Get}
+use Rattle.demi_spec.specs.Request.{Put}
 use Rattle.demi_spec.specs.Input.{Request_of}
-use Rattle.demi_spec.specs.Reply.{Answer, Stored, Found, Missing, Refused, Bye, Full}
+use Rattle.demi_spec.specs.Reply.{Stored, Found, Missing, Refused, Bye, Full}
 use Rattle.demi_spec.specs.Record.{Record}
 use Rattle.demi_store.specs.History.{Said, Told, Fault, NoMemory, Broken, Stopped, Halted, Standing, answered, put_open, opened}
 use Rattle.demi_store.specs.declared.told.StoreTold.{StoreTold}

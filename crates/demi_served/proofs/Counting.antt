@@ -1,20 +1,14 @@
 -- What one operation of a memory port counts on queue 0, and what the answer to a pop tells of it.
-use Rattle.std.proofs.Common.{◌≡◌, ◌≢◌, ℕ, zero, suc, ◌+◌, ◌≤◌, ◌<◌, Bool, true, false, List, [], ◌∷◌, ◌++◌, length, take, Option, None, Some, refl, arith, ◌∙◌, ap, sym, subst, cond, inl, inr, ◌⊎◌, le_refl, append_assoc, append-nil, length-append}
-use Rattle.std.specs.Prelude.{slice_get, ltb, ◌&&◌, ◌==◌, not}
-use Rattle.std.proofs.lemmas.Bool.{cases_lt}
+use Rattle.std.proofs.Common.{◌≡◌, ℕ, zero, suc, ◌+◌, Bool, true, false, List, [], ◌∷◌, ◌++◌, length, Option, None, Some, refl, arith, ◌∙◌, ap, cond, inl, inr, ◌⊎◌, append-nil, length-append}
+use Rattle.std.specs.Prelude.{ltb, ◌&&◌, ◌==◌, not}
 use Rattle.std.proofs.lemmas.Bool.Decides.{nat_tests}
-use Rattle.std.proofs.lemmas.List.{take_all}
 use Rattle.demi_heap.specs.Seen.{HalfValue}
-use Rattle.demi_port.specs.Seen.{says}
-use Rattle.demi_port_core.specs.Trails.{StartsWith}
-use Rattle.demi_memq.specs.Counting.{beside, has, Counts, none_yet, popped, has_room, accept, counted, counts_from, counts, item_or, gets, answer, answer_unless, answer_of, result_at}
-use Rattle.demi_memq.specs.Steady.{beside_append, from_append, and_left, and_right}
+use Rattle.demi_memq.specs.Counting.{beside, has, Counts, popped, has_room, counted, gets, answer_unless, answer_of}
+use Rattle.demi_memq.specs.Steady.{beside_append}
 use Rattle.demi_memq.specs.declared.op.MemOp.{MemOp}
 use Rattle.demi_memq.specs.declared.op.MemOp.TheVariants.{Queue, Push, Pop, Close, Stop}
 use Rattle.demi_memq.specs.declared.out.MemOut.{MemOut}
-use Rattle.demi_memq.specs.declared.out.MemOut.TheVariants.{Pushed, Closed, QueueFull, BadQueue, Item, Stopped}
-use Rattle.demi_served.specs.Sharing.{MemEntry, number_of, Did, Shared, Got}
-use Rattle.demi_served.proofs.Lists.{some_is, parted, get_within, get_left}
+use Rattle.demi_memq.specs.declared.out.MemOut.TheVariants.{Pushed, Closed, QueueFull, BadQueue, Stopped}
 
 -- what was pushed on queue 0, and how often it was popped
 abbrev pub items : Counts → List (List HalfValue)

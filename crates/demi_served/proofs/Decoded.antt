@@ -1,8 +1,8 @@
 -- The requests that a decoder handed out are those that a text asks.
 use Rattle.std.proofs.Common.{◌≡◌, ℕ, Bool, true, false, List, [], ◌∷◌, ◌++◌, map, flat_map, Option, None, Some, refl, ◌∙◌, ap, sym, subst, inl, inr, append_assoc, append-nil}
 use Rattle.demi_port_core.specs.Trails.{StartsWith}
-use Rattle.demi_spec.specs.Request.{Request, Put, Get, End, spelling, AllGoOn}
-use Rattle.demi_spec.specs.Input.{Asked, Request_of, Refused_end, Ending, EndFrame, Clean, Refused, Open, Front, Ends, Parses, front, asked, asked_of}
+use Rattle.demi_spec.specs.Request.{Request, End, spelling, AllGoOn}
+use Rattle.demi_spec.specs.Input.{Asked, Request_of, Refused_end, Ending, EndFrame, Refused, Open, Ends, Parses, front, asked, asked_of}
 use Rattle.demi_spec.proofs.Parsing.{asked_on, asked_is}
 use Rattle.demi_frame.specs.Decoding.{Decoding}
 use Rattle.demi_frame.specs.Reading.{HasRead, StopsAt}

@@ -3,7 +3,7 @@ use Rattle.std.proofs.Common.{◌≡◌, ◌≢◌, ℕ, zero, suc, ◌+◌, Boo
 use Rattle.std.specs.Prelude.{◌==◌, nat_lt, if◌then◌else◌}
 use Rattle.demi_port_core.specs.Trails.{StartsWith}
 use Rattle.demi_spec.specs.Request.{Request, Put, Get, End}
-use Rattle.demi_spec.specs.Input.{Ending, EndFrame, Clean, Refused, Open, Front, Whole, Ends, Parsed, front, front_of_content, after_front, parse, parse_within, cut_short, head_kind, head_key, head_value, code_of_head, request_of, Asked, Request_of, asked, asked_of, refused_end}
+use Rattle.demi_spec.specs.Input.{Ending, Clean, Refused, Open, Front, Whole, Ends, Parsed, front, front_of_content, after_front, parse, parse_within, cut_short, head_kind, head_key, head_value, code_of_head, request_of, Asked, Request_of, asked, asked_of, refused_end}
 
 -- A text that is known to have ended asks what it asked before, and perhaps a refusal at its end.
 abbrev pub Extends : Parsed → Parsed → Type 0
@@ -72,4 +72,3 @@ asked_settled bytes settled = go (within_same (length bytes + 1) bytes)
     go : Extends (parse_within (length bytes + 1) false bytes) (parse_within (length bytes + 1) true bytes) → asked_of (parse_within (length bytes + 1) true bytes).requests (parse_within (length bytes + 1) true bytes).how ≡ asked_of (parse_within (length bytes + 1) false bytes).requests (parse_within (length bytes + 1) false bytes).how
     go (inl e) = ap (λ (p : Parsed). asked_of p.requests p.how) (sym e)
     go (inr (same, open_end)) = absurd (settled open_end)
-

@@ -1,34 +1,30 @@
 -- A session of one link that puts a value, gets it and ends: it meets what is asked of a closed session and was whole; and
 -- sessions in which one thing is wrong are refused.
 use Rattle.std.proofs.Common.{◌≡◌, ℕ, zero, suc, ◌<◌, List, [], ◌∷◌, refl, arith, inl, inr, ap, true, false, Some}
-use Rattle.std.specs.Prelude.{flat_map}
 use mathlib.Core.Option.{some, some-injective}
 use lib.ListN.{get_elem?}
 use Rattle.arrayvec.specs.ArrayVec.{ArrayVec}
 use Rattle.demi_buf.specs.declared.class.Class.TheVariants.{Small, Large}
-use Rattle.demi_heap.specs.Seen.{HeapId, HalfValue}
+use Rattle.demi_heap.specs.Seen.{HeapId}
 use Rattle.demi_port_core.specs.declared.trail.Trail.{Trail}
-use Rattle.demi_spec.specs.Request.{Put, Get, End, spelling as request_spelling}
-use Rattle.demi_spec.specs.Input.{Asked, Request_of, Refused_end}
+use Rattle.demi_spec.specs.Request.{Put, Get, End}
+use Rattle.demi_spec.specs.Input.{Asked, Request_of}
 use Rattle.demi_spec.specs.Record.{Record}
-use Rattle.demi_spec.specs.Reply.{Reply, Answer, Stored, Found, Missing, Refused, Bye, Full, spelling}
+use Rattle.demi_spec.specs.Reply.{Reply, Stored, Found, Missing, Bye, Full}
 use Rattle.demi_spec.specs.Store.{serial}
 use Rattle.demi_store.specs.Laws.{StoreBasis}
 use Rattle.demi_store.specs.declared.ask.StoreAsk.{StoreAsk}
-use Rattle.demi_store.specs.declared.op.StoreOp.{StoreOp}
 use Rattle.demi_store.specs.declared.op.StoreOp.TheVariants as op
 use Rattle.demi_store.specs.declared.told.StoreTold.{StoreTold}
-use Rattle.demi_served.specs.Talks.{LinkRun, Run, Talk}
+use Rattle.demi_served.specs.Talks.{Run, Talk}
 use Rattle.demi_served.specs.Answers.{Answers}
-use Rattle.demi_served.specs.Served.{NeverFalls, InStep, OfTwoRequests, Served, Whole, WholeTalk}
+use Rattle.demi_served.specs.Served.{NeverFalls, InStep, OfTwoRequests}
 use Rattle.demi_served.specs.Asking.{asks_for}
-use Rattle.demi_served.specs.Accounts.{StoreEntry, IsLater, IsNext, Accounted}
-use Rattle.demi_served.specs.Keeps.{Worker, Link, WorkerKeeps}
+use Rattle.demi_served.specs.Accounts.{StoreEntry, IsNext, Accounted}
+use Rattle.demi_served.specs.Keeps.{Worker, Link}
 use Rattle.demi_served.specs.Ends.{StoreEnds}
 use Rattle.demi_served.specs.Alone.{AskedAll}
-use Rattle.demi_served.proofs.Lists.{some_is}
 use Rattle.demi_served.proofs.Closes.{accounted}
-use Rattle.demi_served.proofs.Wholes.{whole}
 use Rattle.demi_served.proofs.OnlyLink.{serial_all}
 
 -- what the link asks: put a=1, get a, end
@@ -99,8 +95,10 @@ module _ (heap : HeapId) where
     };
     kept = (
       record {
-        asks = (λ _. (record { link = 0; index = 0; request = Request_of (Put (0x61 ∷ []) (0x31 ∷ [])) }, (omega arith, refl), refl),
-            (λ _. (record { link = 0; index = 1; request = Request_of (Get (0x61 ∷ [])) }, (omega arith, refl), refl), (λ x. absurd x, tt)));
+        asks = (
+          λ _. (record { link = 0; index = 0; request = Request_of (Put (0x61 ∷ []) (0x31 ∷ [])) }, (omega arith, refl), refl),
+          (λ _. (record { link = 0; index = 1; request = Request_of (Get (0x61 ∷ [])) }, (omega arith, refl), refl), (λ x. absurd x, tt)),
+        );
         rises = ((λ _ _. omega arith, (λ _ x. absurd x, tt)), ((λ _ x. absurd x, tt), (tt, tt)));
         further = ((λ _. omega arith, (λ _. omega arith, tt)), ((λ _. omega arith, tt), (tt, tt)));
       },

@@ -1,24 +1,19 @@
 -- What a link's coroutine was handed is what was taken; what was written is its replies.
-use Rattle.std.proofs.Common.{◌≡◌, ◌≢◌, ℕ, zero, suc, ◌+◌, ◌≤◌, ◌<◌, Bool, true, false, List, [], ◌∷◌, ◌++◌, length, map, take, flat_map, Option, None, Some, refl, arith, ◌∙◌, ap, sym, subst, inl, inr, ◌⊎◌, le_refl, le_trans, append_assoc, append-nil}
+use Rattle.std.proofs.Common.{◌≡◌, ◌≢◌, ℕ, suc, ◌+◌, ◌≤◌, ◌<◌, List, [], ◌∷◌, ◌++◌, length, Option, None, Some, refl, arith, ◌∙◌, ap, sym, subst, inl, inr}
 use Rattle.std.specs.Prelude.{slice_get}
 use Rattle.std.proofs.lemmas.Bool.{cases_lt, cases_eq}
-use Rattle.std.proofs.lemmas.List.{take_all}
 use Rattle.demi_port_core.specs.History.{Each}
 use Rattle.demi_port_core.specs.Trails.{told_at as told_there}
-use Rattle.demi_device.specs.Serving.{trail, first_stop, RiseFrom}
-use Rattle.demi_heap.specs.Seen.{HalfValue}
-use Rattle.demi_sga.specs.Arrays.{byte_count}
-use Rattle.demi_spec.specs.Reply.{Reply, spelling}
-use Rattle.demi_streamq.specs.Receiving.{at, is_stop, over, told_at, told, bytes_before, bytes_in, IsRead, RxRead, RxPop, RxAnswer, RxAdmits}
+use Rattle.demi_device.specs.Serving.{trail, RiseFrom}
+use Rattle.demi_streamq.specs.Receiving.{told, bytes_in, RxAnswer, RxAdmits}
 use Rattle.demi_streamq.specs.RxKept.{InOrder, bytes_of, all_bytes}
 use Rattle.demi_streamq.specs.declared.rx_op.RxOp.{RxOp}
 use Rattle.demi_streamq.specs.declared.rx_op.RxOp.TheVariants.{Pop, Stop}
 use Rattle.demi_streamq.specs.declared.rx_out.RxOut.{RxOut}
 use Rattle.demi_streamq.specs.declared.rx_out.RxOut.TheVariants.{Piece, End, Fault, Broken, NoSlot, Stopped, Halted}
 use Rattle.demi_streamq.specs.declared.rx_told.RxTold.{RxTold}
-use Rattle.demi_streamq.specs.declared.rx_told.RxTold.TheVariants.{Bytes, AtEnd, Failed, Refused}
 use Rattle.demi_served.specs.Reading.{pieces_in, IsPlaceOf, RxEnd, Popped}
-use Rattle.demi_served.proofs.Lists.{some_is, get_within}
+use Rattle.demi_served.proofs.Lists.{get_within}
 
 -- the bytes of what an outcome tells, and those of the outcome
 told_bytes : Option RxTold → List ℕ

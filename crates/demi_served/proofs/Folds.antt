@@ -1,12 +1,10 @@
 -- What the store says hangs on what is asked alone: its fold over operations is one over what they ask.
-use Rattle.std.proofs.Common.{◌≡◌, ℕ, zero, suc, ◌+◌, ◌≤◌, Bool, true, false, List, [], ◌∷◌, ◌++◌, length, take, Option, None, Some, refl, arith, ◌∙◌, ap, sym, cond, append_assoc, append-nil}
-use Rattle.std.specs.Prelude.{nat_le, map, slice_get}
+use Rattle.std.proofs.Common.{◌≡◌, ℕ, zero, suc, ◌+◌, Bool, true, false, List, [], ◌∷◌, ◌++◌, length, take, Option, None, Some, refl, arith, ◌∙◌, ap, sym, cond, append_assoc, append-nil}
+use Rattle.std.specs.Prelude.{nat_le}
 use Rattle.demi_spec.specs.Request.{Put, Get}
-use Rattle.demi_spec.specs.Input.{Asked, Request_of}
-use Rattle.demi_spec.specs.Reply.{Answer, Stored, Found, Missing, Refused, Bye, Full}
+use Rattle.demi_spec.specs.Input.{Request_of}
+use Rattle.demi_spec.specs.Reply.{Stored, Full}
 use Rattle.demi_spec.specs.Record.{Record}
-use Rattle.demi_spec.specs.Store.{answer, added, found}
-use Rattle.demi_spec.specs.Store as store
 use Rattle.demi_store.specs.History.{Said, Told, Fault, NoMemory, Broken, Stopped, Halted, Standing, answered, put_open, get_open, opened, struck_at}
 use Rattle.demi_store.specs.History as ops
 use Rattle.demi_store.specs.Laws.{StoreBasis, said_to}

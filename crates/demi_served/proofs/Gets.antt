@@ -1,20 +1,20 @@
 -- Each link's number was got by one worker's pop.
-use Rattle.std.proofs.Common.{◌≡◌, ◌≢◌, ℕ, zero, suc, ◌+◌, ◌≤◌, ◌<◌, Bool, true, false, List, [], ◌∷◌, ◌++◌, length, take, Option, None, Some, refl, arith, ◌∙◌, ap, sym, subst, cond, inl, inr, ◌⊎◌, append_assoc, append-nil, length-append}
+use Rattle.std.proofs.Common.{◌≡◌, ℕ, zero, suc, ◌+◌, ◌≤◌, ◌<◌, Bool, true, false, List, [], ◌∷◌, ◌++◌, length, take, Option, None, Some, refl, arith, ◌∙◌, ap, sym, subst, cond, inl, inr, ◌⊎◌, append_assoc, append-nil}
 use Rattle.std.specs.Prelude.{slice_get, ltb}
-use Rattle.std.proofs.lemmas.Bool.{cases_lt, cases_eq}
+use Rattle.std.proofs.lemmas.Bool.{cases_lt}
 use Rattle.std.proofs.lemmas.List.{take_all}
 use Rattle.demi_heap.specs.Seen.{HalfValue}
 use Rattle.demi_port.specs.Seen.{says}
 use Rattle.demi_port_core.specs.Trails.{StartsWith}
-use Rattle.demi_memq.specs.Counting.{beside, has, Counts, popped, counted, counts, item_or, gets, answer_of, answer_unless, result_at}
+use Rattle.demi_memq.specs.Counting.{has, Counts, popped, counted, counts, item_or, gets, answer_of, answer_unless, result_at}
 use Rattle.demi_memq.specs.Steady.{from_append}
 use Rattle.demi_memq.specs.declared.op.MemOp.{MemOp}
 use Rattle.demi_memq.specs.declared.op.MemOp.TheVariants.{Push, Pop}
 use Rattle.demi_memq.specs.declared.out.MemOut.{MemOut}
 use Rattle.demi_memq.specs.declared.out.MemOut.TheVariants.{Pushed, Closed, Item, BadQueue, Stopped}
-use Rattle.demi_served.specs.Sharing.{MemEntry, number_of, Did, Shared, Got}
+use Rattle.demi_served.specs.Sharing.{MemEntry, number_of, Shared, Got}
 use Rattle.demi_served.proofs.Lists.{some_is, parted, get_within, get_left}
-use Rattle.demi_served.proofs.Counting.{items, adds_item, adds_pop, Counted, PopTold, pop_told, push_told, counts_one}
+use Rattle.demi_served.proofs.Counting.{items, adds_item, adds_pop, PopTold, pop_told, push_told, counts_one}
 
 get_last : {X : Type 0} (xs : List X) (x : X) → slice_get (xs ++ x ∷ []) (length xs) ≡ Some x
 get_last [] x = refl

@@ -1,13 +1,12 @@
 -- What the engines and the devices of a link's ports give at its end.
-use Rattle.std.proofs.Common.{◌≡◌, ℕ, ◌+◌, List, [], ◌∷◌, ◌++◌, length, flat_map, Option, refl, arith, ◌∙◌, ap, sym, subst, inl, inr, append-nil}
-use Rattle.std.specs.List.{AllByRecursion, AllZip}
+use Rattle.std.proofs.Common.{◌≡◌, ℕ, List, [], ◌∷◌, ◌++◌, length, Option, ◌∙◌, ap, sym, subst}
+use Rattle.std.specs.List.{AllZip}
 use Rattle.std.specs.Io.KnownBytes.{append_known, prepend_known}
 use Rattle.demi_port.specs.Seen.{DeviceValue}
 use Rattle.demi_port_core.specs.History.{Each}
-use Rattle.demi_device.specs.Serving.{trail, AllAdmitted}
+use Rattle.demi_device.specs.Serving.{trail}
 use Rattle.demi_device.specs.Turning.{Agrees}
 use Rattle.demi_heap.specs.Seen.{HeapId}
-use Rattle.demi_spec.specs.Reply.{spelling}
 use Rattle.demi_streamq.specs.Receiving as rx
 use Rattle.demi_streamq.specs.Receiving.{RxAdmits, IsFrom}
 use Rattle.demi_streamq.specs.Sending as tx

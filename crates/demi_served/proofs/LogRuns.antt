@@ -1,5 +1,5 @@
 -- What operations of the store leave on its disk, one after another.
-use Rattle.std.proofs.Common.{◌≡◌, ◌≢◌, ℕ, Bool, zero, suc, ◌+◌, ◌≤◌, ◌<◌, List, [], ◌∷◌, ◌++◌, length, take, drop, flat_map, Option, None, Some, refl, arith, ◌∙◌, ap, sym, subst, inl, inr, ◌⊎◌, append_assoc, append-nil, length-append}
+use Rattle.std.proofs.Common.{◌≡◌, ℕ, Bool, suc, ◌+◌, ◌≤◌, ◌<◌, List, [], ◌∷◌, ◌++◌, length, take, drop, flat_map, Option, None, Some, refl, arith, ◌∙◌, ap, sym, subst, inl, inr, ◌⊎◌, append_assoc, append-nil, length-append}
 use Rattle.std.specs.Prelude.{map, slice_get}
 use Rattle.std.proofs.lemmas.Bool.{cases_lt}
 use Rattle.std.proofs.lemmas.List.{take_all}
@@ -12,7 +12,7 @@ use Rattle.demi_device.specs.Turning.{Agrees}
 use Rattle.demi_logq.specs.Logged.{Logged as DiskLog}
 use Rattle.demi_spec.specs.LogText.{header, entry}
 use Rattle.demi_spec.specs.Record.{Record, payload, entries_of, log_of}
-use Rattle.demi_store.specs.Engine.{EngineValue, Step, Steps, GoesTo}
+use Rattle.demi_store.specs.Engine.{EngineValue, Steps, GoesTo}
 use Rattle.demi_store.specs.History.{Said, Told, Fault, NoMemory, Broken, Stopped, Halted, Standing, opened, struck_at}
 use Rattle.demi_store.specs.Laws.{StoreBasis, Admits, AnswerIs, said_to, told_of}
 use Rattle.demi_store.specs.Serving.{LogGoes}
@@ -24,7 +24,7 @@ use Rattle.demi_store.specs.declared.op.StoreOp.TheVariants as op
 use Rattle.demi_store.specs.declared.out.StoreOut.{StoreOut}
 use Rattle.demi_store.specs.declared.told.StoreTold.{StoreTold}
 use Rattle.demi_served.specs.Asking.{Ask, Puts, asks_for}
-use Rattle.demi_served.specs.Accounts.{asked_in, standing_at_end, IsLeft, LeftInLog}
+use Rattle.demi_served.specs.Accounts.{asked_in, standing_at_end, IsLeft}
 use Rattle.demi_served.specs.LogEnds.{IsTorn, LogEnds}
 use Rattle.demi_served.proofs.Lists.{some_is}
 use Rattle.demi_served.proofs.Folds.{said_at, standing_from, added_by, stored_from, history_adds, result_is, end_is}

@@ -1,15 +1,13 @@
 -- An outcome that the law admits is a reply of the one-thread store.
-use Rattle.std.proofs.Common.{◌≡◌, ℕ, ◌+◌, Bool, true, false, List, [], ◌∷◌, ◌++◌, length, Option, None, Some, refl, ◌∙◌, ap, sym, subst, cond}
-use Rattle.std.specs.Prelude.{nat_le, slice_get}
+use Rattle.std.proofs.Common.{◌≡◌, ℕ, true, List, [], ◌∷◌, ◌++◌, length, Option, None, Some, refl, ◌∙◌, ap, sym, subst}
 use Rattle.demi_heap.specs.Seen.{HalfValue}
 use Rattle.demi_logq.specs.Folding.{bytes_of}
 use Rattle.demi_spec.specs.Request.{Get}
 use Rattle.demi_spec.specs.Input.{Request_of}
 use Rattle.demi_spec.specs.Reply.{Answer, Stored, Found, Missing, Refused, Bye, Full}
-use Rattle.demi_spec.specs.Record.{Record}
 use Rattle.demi_spec.specs.Store.{found}
 use Rattle.demi_spec.specs.Store as store
-use Rattle.demi_store.specs.History.{Said, Told, Fault, NoMemory, Broken, Stopped, Halted, Standing, value_bytes, record_of_put, opened, struck_at}
+use Rattle.demi_store.specs.History.{Said, Told, Fault, NoMemory, Broken, Stopped, Halted, Standing, value_bytes, record_of_put, struck_at}
 use Rattle.demi_store.specs.Laws.{StoreBasis, Admits, AnswerIs, BackIs, AllSame, said_to}
 use Rattle.demi_store.specs.declared.answer.StoreAnswer.{StoreAnswer}
 use Rattle.demi_store.specs.declared.answer.StoreAnswer.TheVariants as said
@@ -20,9 +18,8 @@ use Rattle.demi_store.specs.declared.op.StoreOp.{StoreOp}
 use Rattle.demi_store.specs.declared.op.StoreOp.TheVariants as op
 use Rattle.demi_store.specs.declared.out.StoreOut.{StoreOut}
 use Rattle.demi_store.specs.declared.told.StoreTold.{StoreTold}
-use Rattle.demi_served.specs.Asking.{Ask, Gets, Stops, IsSaid, asks_for, answer_with, reply_for}
-use Rattle.demi_served.specs.Accounts.{asked_in}
-use Rattle.demi_served.proofs.Folds.{said_by, said_at, storeresult, standing_from, result_is}
+use Rattle.demi_served.specs.Asking.{Gets, Stops, IsSaid, asks_for, answer_with, reply_for}
+use Rattle.demi_served.proofs.Folds.{said_by, said_at, result_is}
 use Rattle.demi_served.proofs.Places.{told_step}
 use Rattle.demi_served.proofs.Versions.{put_version}
 

@@ -1,5 +1,5 @@
 -- What was written of some replies begins what all are spelled as.
-use Rattle.std.proofs.Common.{◌≡◌, ℕ, ◌+◌, ◌<◌, List, [], ◌∷◌, ◌++◌, length, take, drop, flat_map, refl, ◌∙◌, ap, sym, inl, inr, append_assoc, append-nil}
+use Rattle.std.proofs.Common.{◌≡◌, ℕ, List, [], ◌∷◌, ◌++◌, length, take, drop, flat_map, refl, ◌∙◌, ap, sym, inl, inr, append_assoc, append-nil}
 use Rattle.std.proofs.lemmas.List.{take-append-drop}
 use Rattle.demi_port_core.specs.Trails.{StartsWith}
 use Rattle.demi_spec.specs.Reply.{Reply, spelling}

@@ -1,19 +1,19 @@
 -- What the store says at the places of one history.
-use Rattle.std.proofs.Common.{◌≡◌, ℕ, ◌+◌, ◌≤◌, ◌<◌, Bool, true, false, List, [], ◌∷◌, ◌++◌, length, take, drop, Option, None, Some, refl, arith, ◌∙◌, ap, sym, subst, cond, length-append, append_assoc, append-nil, inl, inr, ◌⊎◌}
+use Rattle.std.proofs.Common.{◌≡◌, ℕ, ◌+◌, ◌≤◌, ◌<◌, Bool, true, false, List, [], ◌∷◌, ◌++◌, length, take, drop, Option, None, Some, refl, arith, ◌∙◌, ap, sym, subst, cond, length-append, append_assoc, append-nil}
 use Rattle.std.specs.Prelude.{nat_le, slice_get, IfSome, IsTrue}
 use Rattle.std.proofs.lemmas.List.{take-append-drop, take-take, take_all}
 use Rattle.demi_spec.specs.Request.{Put, Get, End}
 use Rattle.demi_spec.specs.Input.{Asked, Request_of, Refused_end}
-use Rattle.demi_spec.specs.Reply.{Answer, Stored}
+use Rattle.demi_spec.specs.Reply.{Answer}
 use Rattle.demi_spec.specs.Record.{Record}
 use Rattle.demi_spec.specs.Store.{answer, added}
-use Rattle.demi_store.specs.History.{Said, Told, Fault, NoMemory, Standing, answered, put_open, get_open, opened}
+use Rattle.demi_store.specs.History.{Told, Fault, NoMemory, Standing, answered, put_open, opened}
 use Rattle.demi_store.specs.declared.told.StoreTold.{StoreTold}
 use Rattle.demi_store.specs.declared.told.StoreTold.TheVariants.{ByDisk, ByMemory}
 use Rattle.demi_served.specs.Talks.{Run}
 use Rattle.demi_served.specs.Answers.{Answers, version_of, is_stored}
-use Rattle.demi_served.specs.Asking.{Ask, Puts, Gets, Stops, ask_of}
-use Rattle.demi_served.proofs.Lists.{PartedAt, parted, some_is}
+use Rattle.demi_served.specs.Asking.{Ask, Puts, Gets, ask_of}
+use Rattle.demi_served.proofs.Lists.{parted, some_is}
 use Rattle.demi_served.proofs.Folds.{said_open, said_by, said_at, standing_from, storeresult, Grows, history_grows, history_join}
 use Rattle.demi_served.proofs.Answering.{Named, named, answers_there}
 

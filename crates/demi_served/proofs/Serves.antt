@@ -7,16 +7,16 @@ use Rattle.std.proofs.Math.Seq.{drop-append_seam}
 use Rattle.demi_port.specs.Seen.{says}
 use Rattle.demi_spec.specs.Request.{Put, Get, End}
 use Rattle.demi_spec.specs.Input.{Asked, Request_of, Refused_end}
-use Rattle.demi_spec.specs.Reply.{Answer, Reply, Bye, Refused}
+use Rattle.demi_spec.specs.Reply.{Answer, Reply}
 use Rattle.demi_spec.specs.Record.{Record}
 use Rattle.demi_store.specs.History.{Told, Standing, opened, struck_at}
-use Rattle.demi_store.specs.Laws.{StoreBasis, said_to}
+use Rattle.demi_store.specs.Laws.{StoreBasis}
 use Rattle.demi_store.specs.declared.ask.StoreAsk.{StoreAsk}
 use Rattle.demi_store.specs.declared.told.StoreTold.{StoreTold}
 use Rattle.demi_served.specs.Talks.{Run, Talk}
 use Rattle.demi_served.specs.Answers.{Answers, AnswersEach, version_of, is_stored}
 use Rattle.demi_served.specs.Served.{Pairwise, NeverFalls, InStep, Versions, Consistent, Recorded, IsAsked, OfTwoRequests}
-use Rattle.demi_served.specs.Asking.{Ask, Puts, Gets, Stops, asks_for, ask_of, plain_answer}
+use Rattle.demi_served.specs.Asking.{Ask, Puts, asks_for, ask_of, plain_answer}
 use Rattle.demi_served.specs.Accounts.{StoreEntry, asks_at, asked_in, IsAnsweredAt, IsAccounted, IsNoStop, IsNext, IsLeft, Accounted}
 use Rattle.demi_served.proofs.Lists.{some_is, all_by, all_at, placed_by, pairwise_by, pairwise_at, all_flat, pairwise_flat}
 use Rattle.demi_served.proofs.Folds.{standing_from, storeresult, stored_from, history_adds, result_is, end_is}

@@ -1,5 +1,5 @@
 -- What the store said at a place stays as it is, whatever is asked and told later.
-use Rattle.std.proofs.Common.{◌≡◌, ℕ, ◌+◌, ◌<◌, List, [], ◌∷◌, ◌++◌, length, Some, refl, arith, ◌∙◌, ap, sym, subst, append-nil}
+use Rattle.std.proofs.Common.{◌≡◌, ℕ, ◌<◌, List, [], ◌∷◌, ◌++◌, length, arith, ◌∙◌, ap, sym, subst}
 use Rattle.std.specs.Prelude.{◌↔◌}
 use Rattle.demi_port_core.specs.History.{AllAbove}
 use Rattle.demi_port_core.specs.Trails.{NoneBelow, Behind}

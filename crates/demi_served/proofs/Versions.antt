@@ -1,12 +1,11 @@
 -- Each new record is that of the put that was told its version.
-use Rattle.std.proofs.Common.{◌≡◌, ℕ, suc, ◌+◌, Bool, true, false, List, [], ◌∷◌, ◌++◌, length, Option, None, Some, refl, arith, ◌∙◌, ap, sym, subst, cond, length-append, append-nil, inl, inr, ◌⊎◌}
+use Rattle.std.proofs.Common.{◌≡◌, ℕ, suc, ◌+◌, Bool, true, false, List, [], ◌∷◌, ◌++◌, length, Option, Some, refl, arith, ◌∙◌, ap, sym, subst, cond, length-append, append-nil, inl, inr, ◌⊎◌}
 use Rattle.std.specs.Prelude.{nat_le, slice_get}
 use Rattle.demi_spec.specs.Request.{Put}
 use Rattle.demi_spec.specs.Input.{Request_of}
-use Rattle.demi_spec.specs.Reply.{Answer, Stored, Full}
+use Rattle.demi_spec.specs.Reply.{Stored, Full}
 use Rattle.demi_spec.specs.Record.{Record}
-use Rattle.demi_spec.specs.Store.{answer}
-use Rattle.demi_store.specs.History.{Said, Told, Standing, opened}
+use Rattle.demi_store.specs.History.{Told, Standing, opened}
 use Rattle.demi_store.specs.declared.told.StoreTold.{StoreTold}
 use Rattle.demi_served.specs.Asking.{Ask, Puts}
 use Rattle.demi_served.proofs.Folds.{said_at, storeresult, added_by, stored_from, history_adds}

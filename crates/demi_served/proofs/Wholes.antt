@@ -1,5 +1,5 @@
 -- Where nothing failed the session was whole.
-use Rattle.std.proofs.Common.{◌≡◌, ◌≢◌, ℕ, zero, suc, ◌+◌, ◌-◌, ◌≤◌, ◌<◌, Bool, true, false, List, [], ◌∷◌, ◌++◌, length, take, drop, Option, Some, refl, arith, ◌∙◌, ap, sym, subst, cond, append-nil, inl, inr, le_refl, ◌||◌}
+use Rattle.std.proofs.Common.{◌≡◌, ◌≢◌, ℕ, zero, suc, ◌+◌, ◌-◌, ◌≤◌, ◌<◌, Bool, true, false, List, [], ◌∷◌, ◌++◌, length, take, drop, Some, refl, arith, ◌∙◌, ap, sym, subst, cond, append-nil, inl, inr, le_refl, ◌||◌}
 use Rattle.std.specs.Prelude.{slice_get, ◌==◌, IsTrue}
 use Rattle.std.specs.List.{AllByRecursion, AllZip, list_any, count_by}
 use Rattle.std.proofs.lemmas.Bool.Decides.{nat_tests}

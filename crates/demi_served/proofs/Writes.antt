@@ -1,5 +1,5 @@
 -- What a sending port wrote of the spellings of replies, one push a reply.
-use Rattle.std.proofs.Common.{◌≡◌, ◌≢◌, ℕ, zero, suc, ◌+◌, ◌≤◌, ◌<◌, Bool, true, false, List, [], ◌∷◌, ◌++◌, length, map, take, flat_map, Option, None, Some, refl, arith, ◌∙◌, ap, sym, subst, inl, inr, ◌⊎◌, append_assoc, append-nil}
+use Rattle.std.proofs.Common.{◌≡◌, ℕ, zero, suc, ◌+◌, Bool, true, false, List, [], ◌∷◌, ◌++◌, length, map, take, flat_map, Option, None, Some, refl, arith, ◌∙◌, ap, sym, subst, inl, inr, append_assoc, append-nil}
 use Rattle.std.specs.Prelude.{slice_get}
 use Rattle.std.proofs.lemmas.Bool.{cases_lt}
 use Rattle.std.proofs.lemmas.List.{take_all}
@@ -11,14 +11,13 @@ use Rattle.demi_spec.specs.Reply.{Reply, spelling}
 use Rattle.demi_streamq.specs.Receiving.{told_at}
 use Rattle.demi_streamq.specs.RxKept.{InOrder}
 use Rattle.demi_streamq.specs.Sending.{array_bytes, broken_at, has_close, is_stop, told, IsWrite, TxAnswer, TxAdmits}
-use Rattle.demi_streamq.specs.TxKept.{bytes_of, written_of, all_written}
+use Rattle.demi_streamq.specs.TxKept.{written_of, all_written}
 use Rattle.demi_streamq.specs.declared.tx_op.TxOp.{TxOp}
 use Rattle.demi_streamq.specs.declared.tx_op.TxOp.TheVariants.{Push, Close, Stop}
 use Rattle.demi_streamq.specs.declared.tx_out.TxOut.{TxOut}
 use Rattle.demi_streamq.specs.declared.tx_out.TxOut.TheVariants.{Pushed, Fault, Broken, Shut, Closed, Stopped, Halted}
 use Rattle.demi_served.specs.Served.{Torn}
 use Rattle.demi_served.specs.Writing.{texts_of, TxEnd, PushesEach, WroteBefore, WroteAll}
-use Rattle.demi_served.proofs.Lists.{some_is}
 
 -- a push that may be told to be written has no other outcome
 one_outcome : (stop : Option ℕ) (sga : List HalfValue) (broken : Option ℕ) (closed : Bool) (here : Option ℕ) (o : TxOut) → TxAnswer stop (Some (Push sga)) broken closed here Pushed → TxAnswer stop (Some (Push sga)) broken closed here o → o ≡ Pushed

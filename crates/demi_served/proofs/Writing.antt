@@ -1,23 +1,15 @@
 -- What the engine of the store leaves on its disk is what the history says.
-use Rattle.std.proofs.Common.{◌≡◌, ◌≢◌, ℕ, zero, suc, ◌+◌, ◌≤◌, ◌<◌, Bool, true, false, List, [], ◌∷◌, ◌++◌, length, take, drop, flat_map, Option, None, Some, refl, arith, ◌∙◌, ap, sym, subst, cond, inl, inr, ◌⊎◌, append_assoc, append-nil, length-append}
-use Rattle.std.specs.Prelude.{nat_le, map, slice_get}
+use Rattle.std.proofs.Common.{◌≡◌, ℕ, ◌+◌, Bool, true, false, List, [], ◌∷◌, ◌++◌, length, take, Option, None, Some, refl, ◌∙◌, ap, sym, subst, cond, inl, inr, ◌⊎◌, append-nil}
+use Rattle.std.specs.Prelude.{nat_le, map}
 use Rattle.std.specs.Io.KnownBytes.{append_known}
-use Rattle.std.proofs.lemmas.Bool.{cases_lt}
-use Rattle.std.proofs.lemmas.List.{take_all}
-use Rattle.std.proofs.Math.Seq.{drop-append_seam}
-use Rattle.demi_port.specs.Seen.{DeviceValue}
-use Rattle.demi_port_core.specs.History.{Each}
-use Rattle.demi_device.specs.Serving.{trail}
-use Rattle.demi_device.specs.Turning.{Agrees}
 use Rattle.demi_logq.specs.Logged.{Logged as DiskLog}
 use Rattle.demi_spec.specs.Request.{Put}
 use Rattle.demi_spec.specs.Input.{Request_of}
 use Rattle.demi_spec.specs.LogText.{entry}
-use Rattle.demi_spec.specs.Reply.{Answer, Stored, Found, Missing, Refused, Bye, Full}
+use Rattle.demi_spec.specs.Reply.{Stored, Found, Missing, Refused, Bye, Full}
 use Rattle.demi_spec.specs.Record.{Record, payload, entries_of}
-use Rattle.demi_store.specs.Engine.{EngineValue, Step, Steps, GoesTo}
-use Rattle.demi_store.specs.History.{Said, Told, Fault, NoMemory, Broken, Stopped, Halted, Standing, answered, put_open, opened, record_of_put, struck_at}
-use Rattle.demi_store.specs.Laws.{StoreBasis, Admits, AnswerIs, said_to, told_of}
+use Rattle.demi_store.specs.History.{Said, Told, Fault, NoMemory, Broken, Stopped, Halted, Standing, answered, put_open, record_of_put}
+use Rattle.demi_store.specs.Laws.{AnswerIs}
 use Rattle.demi_store.specs.Serving.{LogGoes}
 use Rattle.demi_store.specs.declared.answer.StoreAnswer.{StoreAnswer}
 use Rattle.demi_store.specs.declared.answer.StoreAnswer.TheVariants as said
@@ -28,13 +20,8 @@ use Rattle.demi_store.specs.declared.out.StoreOut.{StoreOut}
 use Rattle.demi_store.specs.declared.told.StoreTold.{StoreTold}
 use Rattle.demi_store.specs.declared.told.StoreTold.TheVariants.{ByDisk, ByMemory}
 use Rattle.demi_served.specs.Asking.{Ask, Puts, Gets, Stops, asks_for}
-use Rattle.demi_served.specs.Accounts.{asked_in, standing_at_end, IsLeft, LeftInLog}
-use Rattle.demi_served.specs.LogEnds.{IsTorn, LogEnds}
-use Rattle.demi_served.proofs.Lists.{some_is}
-use Rattle.demi_served.proofs.Folds.{said_open, said_by, said_at, standing_from, added_by, stored_from, history_adds, result_is, end_is}
-use Rattle.demi_served.proofs.Places.{below, below_next}
-use Rattle.demi_served.proofs.Comes.{step_fault, broken_step, broken_rest}
-use Rattle.demi_served.proofs.Serves.{asked_at}
+use Rattle.demi_served.proofs.Folds.{said_open, said_by, said_at, added_by}
+use Rattle.demi_served.proofs.Comes.{step_fault}
 
 -- where a fault is said, the fault stands from there on
 pub fault_stands : (limit place : ℕ) (s : Standing) (a : Ask) (k : Option StoreTold) → s.fault ≡ None → (said_at limit place s a k).0 ≡ Fault → (said_at limit place s a k).1.fault ≡ Some place

@@ -1,6 +1,5 @@
 -- What the operations of the store's port ask, and what the store says to them.
-use Rattle.std.specs.Prelude.{◌≡◌, ℕ, List, [], ◌∷◌, map, slice_get, Option, Some, None}
-use Rattle.demi_heap.specs.Seen.{HalfValue}
+use Rattle.std.specs.Prelude.{◌≡◌, ℕ, List, [], slice_get, Option, Some, None}
 use Rattle.demi_logq.specs.Folding.{bytes_of}
 use Rattle.demi_spec.specs.Request.{Put, Get, End}
 use Rattle.demi_spec.specs.Input.{Asked, Request_of, Refused_end}

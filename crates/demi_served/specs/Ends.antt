@@ -1,5 +1,5 @@
 -- What is known of the store where its port is closed and its workers have come back.
-use Rattle.std.specs.Prelude.{◌≡◌, ℕ, ◌+◌, ◌<◌, Bool, true, List, [], ◌∷◌, length, slice_get, Some}
+use Rattle.std.specs.Prelude.{◌≡◌, ℕ, ◌+◌, ◌<◌, true, List, [], ◌∷◌, length, slice_get, Some}
 use Rattle.std.specs.List.{AllByRecursion, AllZip}
 use mathlib.Core.Option.{some}
 use lib.ListN.{get_elem?}

@@ -1,5 +1,5 @@
 -- What a link's coroutine reads: the pieces that its receiving port took from the source.
-use Rattle.std.specs.Prelude.{◌≡◌, ℕ, ◌+◌, ◌≤◌, ◌⊎◌, List, [], ◌∷◌, ◌++◌, length, slice_get, Some}
+use Rattle.std.specs.Prelude.{◌≡◌, ℕ, ◌⊎◌, List, [], ◌∷◌, ◌++◌, length, slice_get, Some}
 use Rattle.demi_port_core.specs.History.{Each}
 use Rattle.demi_device.specs.Serving.{trail, RiseFrom}
 use Rattle.demi_streamq.specs.Receiving.{RxAdmits, bytes_in, told}
