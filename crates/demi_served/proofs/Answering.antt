@@ -26,7 +26,8 @@ found_named : (records : List Record) (o : Option (List ℕ)) → Named records 
 found_named records None = record { least = omega arith; most = let l = length-append records [] in omega arith; above = λ e. absurd (cc) }
 found_named records (Some value) = record { least = omega arith; most = let l = length-append records [] in omega arith; above = λ e. absurd (cc) }
 
-pub named : (records : List Record) (limit link index : ℕ) (q : Asked) (ask : Ask) → ask_of link index q ≡ Some ask → Named records (records ++ added records limit link index q) (answer records limit q)
+pub named : (records : List Record) (limit link index : ℕ) (q : Asked) (ask : Ask) → ask_of link index q ≡ Some ask
+    → Named records (records ++ added records limit link index q) (answer records limit q)
 named records limit link index (Request_of (Put key value)) ask e = go (nat_le limit (length records))
   where
     r : Record
@@ -44,7 +45,8 @@ module _ (all records rest : List Record) (whole : all ≡ records ++ rest) wher
   front = ap (take (length records)) whole ∙ take-append_seam records rest
 
   -- the records that were looked at are found again
-  looks : (limit link index : ℕ) (q : Asked) (ask : Ask) → ask_of link index q ≡ Some ask → looked_at all (answer records limit q) ≡ records
+  looks : (limit link index : ℕ) (q : Asked) (ask : Ask) → ask_of link index q ≡ Some ask
+      → looked_at all (answer records limit q) ≡ records
   looks limit link index (Request_of (Put key value)) ask e = go (nat_le limit (length records))
     where
       go : (b : Bool) → looked_at all (cond b (Full (length records)) (Stored (length records + 1) value)) ≡ records
@@ -58,8 +60,10 @@ module _ (all records rest : List Record) (whole : all ≡ records ++ rest) wher
   looks limit link index (Request_of End) ask e = absurd (cc)
   looks limit link index (Refused_end code) ask e = absurd (cc)
 
-pub answers_there : (run : Run) (records rest : List Record) (limit link index : ℕ) (q : Asked) (ask : Ask) → ask_of link index q ≡ Some ask → limit ≡ run.limit → run.old ≤ length records
-    → run.records ≡ (records ++ added records limit link index q) ++ rest → Answers run link index q (answer records limit q)
+pub answers_there : (run : Run) (records rest : List Record) (limit link index : ℕ) (q : Asked) (ask : Ask)
+    → ask_of link index q ≡ Some ask → limit ≡ run.limit → run.old ≤ length records
+    → run.records ≡ (records ++ added records limit link index q) ++ rest
+    → Answers run link index q (answer records limit q)
 answers_there run records rest limit link index q ask e same_limit old all =
     let new : List Record = added records limit link index q in
     let now : List Record = records ++ new in

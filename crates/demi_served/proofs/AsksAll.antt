@@ -16,7 +16,8 @@ use Rattle.demi_served.specs.Steps.{new_worker, after_draw, after_ask, after_sto
 use Rattle.demi_served.specs.Alone.{Numbered, numbered_ask, with_ask, asked_with, asked_by, AsksAll, AskedAll}
 use Rattle.demi_served.proofs.Lists.{all_append}
 
-asked_push : (s : ℕ) (draws : List Draw) (d : Draw) → asked_with s (draws ++ d ∷ []) ≡ asked_with s draws ++ with_ask (s + length draws) (ask_of d.link d.index d.request) []
+asked_push : (s : ℕ) (draws : List Draw) (d : Draw)
+    → asked_with s (draws ++ d ∷ []) ≡ asked_with s draws ++ with_ask (s + length draws) (ask_of d.link d.index d.request) []
 asked_push s [] d = let n : s ≡ s + 0 = omega arith in ap (λ m. with_ask m (ask_of d.link d.index d.request) []) n
 asked_push s (x ∷ draws) d = front (ask_of x.link x.index x.request) (asked_with (s + 1) (draws ++ d ∷ [])) (asked_with (s + 1) draws) (with_ask (s + suc (length draws)) (ask_of d.link d.index d.request) []) (asked_push (s + 1) draws d ∙ ap (λ m. asked_with (s + 1) draws ++ with_ask m (ask_of d.link d.index d.request) []) (shift s (length draws)))
   where
@@ -27,18 +28,21 @@ asked_push s (x ∷ draws) d = front (ask_of x.link x.index x.request) (asked_wi
     front None xs ys zs e = e
     front (Some a) xs ys zs e = ap (λ (l : List Numbered). record { sequence = s; ask = a } ∷ l) e
 
-said_push : (xs : List (ℕ × (ℕ × StoreAsk))) (x : ℕ × (ℕ × StoreAsk)) → asked_by (map (λ y. y.1.1) (xs ++ x ∷ [])) ≡ asked_by (map (λ y. y.1.1) xs) ++ numbered_ask x.1.1 ∷ []
+said_push : (xs : List (ℕ × (ℕ × StoreAsk))) (x : ℕ × (ℕ × StoreAsk))
+    → asked_by (map (λ y. y.1.1) (xs ++ x ∷ [])) ≡ asked_by (map (λ y. y.1.1) xs) ++ numbered_ask x.1.1 ∷ []
 said_push [] x = refl
 said_push (y ∷ xs) x = ap (λ (l : List Numbered). numbered_ask y.1.1 ∷ l) (said_push xs x)
 
 pub first_all : (known : Trail StoreAsk StoreTold) → AsksAll (new_worker known)
 first_all known = refl
 
-pub drawn_all : (w : Worker) (link index : ℕ) (q : Asked) → AsksAll w → ask_of link index q ≡ None → AsksAll (after_draw w link index q)
+pub drawn_all : (w : Worker) (link index : ℕ) (q : Asked) → AsksAll w → ask_of link index q ≡ None
+    → AsksAll (after_draw w link index q)
 drawn_all w link index q h none =
     h ∙ sym (asked_push 1 w.draws (record { link = link; index = index; request = q }) ∙ ap (λ (o : Option Ask). asked_with 1 w.draws ++ with_ask (1 + length w.draws) o []) none ∙ append-nil _)
 
-pub asked_all : (w : Worker) (link index : ℕ) (q : Asked) (op : StoreOp) (p t : ℕ) → AsksAll w → ask_of link index q ≡ Some (asks_for op) → AsksAll (after_ask w link index q op p t)
+pub asked_all : (w : Worker) (link index : ℕ) (q : Asked) (op : StoreOp) (p t : ℕ) → AsksAll w
+    → ask_of link index q ≡ Some (asks_for op) → AsksAll (after_ask w link index q op p t)
 asked_all w link index q op p t h some =
     let n : length w.draws + 1 ≡ 1 + length w.draws = omega arith in
     said_push w.submitted (p, (t, record { sequence = length w.draws + 1; op = op })) ∙ ap (λ (l : List Numbered). l ++ record { sequence = length w.draws + 1; ask = asks_for op } ∷ []) h
@@ -59,7 +63,9 @@ stopped_again w p t h = record {
 }
 
 -- the entries of a history that has those of one pass alone
-pub of_only_pass : (history : List StoreEntry) (place : ℕ) → ((p : ℕ) (e : StoreEntry) → slice_get history p ≡ Some e → e.0 ≡ 0) → map (λ (x : ℕ × (ℕ × StoreAsk)). x.1.1) (of_pass 0 place history) ≡ says history
+pub of_only_pass : (history : List StoreEntry) (place : ℕ)
+    → ((p : ℕ) (e : StoreEntry) → slice_get history p ≡ Some e → e.0 ≡ 0)
+    → map (λ (x : ℕ × (ℕ × StoreAsk)). x.1.1) (of_pass 0 place history) ≡ says history
 of_only_pass [] place h = refl
 of_only_pass (e ∷ history) place h =
     let number = h 0 e refl in

@@ -42,11 +42,14 @@ beside_on link u v w a b = record {
   known = behind_more w.known v.known u.known b.known a.known;
 }
 
-pub beside_drawn : (link other index : ℕ) (w : Worker) (q : Asked) → other ≢ link → GoesBeside link w (after_draw w other index q)
+pub beside_drawn : (link other index : ℕ) (w : Worker) (q : Asked) → other ≢ link
+    → GoesBeside link w (after_draw w other index q)
 beside_drawn link other index w q differ = record { submitted = ([], sym (append-nil w.submitted)); draws = (record { link = other; index = index; request = q } ∷ [], refl, (differ, tt)); known = itself w.known }
 
-pub beside_asked : (link other index : ℕ) (w : Worker) (q : Asked) (op : StoreOp) (p t : ℕ) → other ≢ link → GoesBeside link w (after_ask w other index q op p t)
+pub beside_asked : (link other index : ℕ) (w : Worker) (q : Asked) (op : StoreOp) (p t : ℕ) → other ≢ link
+    → GoesBeside link w (after_ask w other index q op p t)
 beside_asked link other index w q op p t differ = record { submitted = ((p, (t, record { sequence = length w.draws + 1; op = op })) ∷ [], refl); draws = (record { link = other; index = index; request = q } ∷ [], refl, (differ, tt)); known = itself w.known }
 
-pub beside_handed : (link : ℕ) (w : Worker) (known : Trail StoreAsk StoreTold) → Behind known w.known → GoesBeside link w (after_handing w known)
+pub beside_handed : (link : ℕ) (w : Worker) (known : Trail StoreAsk StoreTold) → Behind known w.known
+    → GoesBeside link w (after_handing w known)
 beside_handed link w known h = record { submitted = ([], sym (append-nil w.submitted)); draws = ([], sym (append-nil w.draws), tt); known = h }

@@ -10,7 +10,9 @@ use Rattle.demi_served.specs.Accounts.{StoreEntry}
 use Rattle.demi_served.specs.Keeps.{Worker}
 use Rattle.demi_served.specs.Ends.{StorePass, StoreEnd, PassesOf, PortClosed}
 
-passes_placed : (n : ℕ) (end : StoreEnd) (workers : List Worker) (passes : List StorePass) → PassesOf n workers passes → Each (λ p. p.submitted ≡ of_pass p.number 0 end.history) passes → Each (λ p. Behind (known_at end) (known_by p)) passes
+passes_placed : (n : ℕ) (end : StoreEnd) (workers : List Worker) (passes : List StorePass) → PassesOf n workers passes
+    → Each (λ p. p.submitted ≡ of_pass p.number 0 end.history) passes
+    → Each (λ p. Behind (known_at end) (known_by p)) passes
     → Placed (λ n w. (w.submitted ≡ of_pass n 0 end.history) × Behind (known_at end) w.known) n workers
 passes_placed n end [] passes of mine behind = tt
 passes_placed n end (w ∷ workers) [] of mine behind = absurd of
@@ -19,14 +21,18 @@ passes_placed n end (w ∷ workers) (p ∷ passes) of mine behind = (
   passes_placed (n + 1) end workers passes of.1 mine.1 behind.1,
 )
 
-as_many : (n : ℕ) (workers : List Worker) (passes : List StorePass) → PassesOf n workers passes → length passes ≡ length workers
+as_many : (n : ℕ) (workers : List Worker) (passes : List StorePass) → PassesOf n workers passes
+    → length passes ≡ length workers
 as_many n [] [] of = refl
 as_many n [] (p ∷ passes) of = absurd of
 as_many n (w ∷ workers) [] of = absurd of
 as_many n (w ∷ workers) (p ∷ passes) of = ap suc (as_many (n + 1) workers passes of.1)
 
-pub port_closed : (end : StoreEnd) (workers : List Worker) (passes : List StorePass) → PassesOf 0 workers passes → Each (λ p. p.submitted ≡ of_pass p.number 0 end.history) passes → ((p : ℕ) (e : StoreEntry) → get_elem? end.history p ≡ some e → e.0 < length passes)
-    → end.heard ≡ says end.history → Each (λ p. Behind (known_at end) (known_by p)) passes → PortClosed (known_at end) end.history workers
+pub port_closed : (end : StoreEnd) (workers : List Worker) (passes : List StorePass) → PassesOf 0 workers passes
+    → Each (λ p. p.submitted ≡ of_pass p.number 0 end.history) passes
+    → ((p : ℕ) (e : StoreEntry) → get_elem? end.history p ≡ some e → e.0 < length passes)
+    → end.heard ≡ says end.history → Each (λ p. Behind (known_at end) (known_by p)) passes
+    → PortClosed (known_at end) end.history workers
 port_closed end workers passes of mine entries heard behind = record {
   heard = heard;
   entries = λ p e at. subst (λ n. e.0 < n) (as_many 0 workers passes of) (entries p e at);
@@ -42,7 +48,9 @@ says_long [] = refl
 says_long (e ∷ history) = ap suc (says_long history)
 
 -- what an engine was served begins all that was fetched, and is as long
-pub served_all : {D : Type 0} (history : List (ℕ × (ℕ × D))) (ground served : List D) (fetched : ℕ) → StartsWith ground served → ground ≡ says history → fetched ≡ length history → fetched ≡ length served → served ≡ says history
+pub served_all : {D : Type 0} (history : List (ℕ × (ℕ × D))) (ground served : List D) (fetched : ℕ)
+    → StartsWith ground served → ground ≡ says history → fetched ≡ length history → fetched ≡ length served
+    → served ≡ says history
 served_all history ground served fetched begins grounded counted over =
     let whole : says history ≡ served ++ begins.0 = sym grounded ∙ begins.1 in
     let long = says_long history in

@@ -32,33 +32,39 @@ get_some [] i less = absurd (omega arith)
 get_some (x ∷ xs) zero less = (x, refl)
 get_some (x ∷ xs) (suc i) less = get_some xs i (omega arith)
 
-pub zip_at : {X Y : Type 0} (R : X → Y → Type 0) (xs : List X) (ys : List Y) (i : ℕ) (x : X) → AllZip R xs ys → slice_get xs i ≡ Some x → (y : Y) × (slice_get ys i ≡ Some y) × R x y
+pub zip_at : {X Y : Type 0} (R : X → Y → Type 0) (xs : List X) (ys : List Y) (i : ℕ) (x : X) → AllZip R xs ys
+    → slice_get xs i ≡ Some x → (y : Y) × (slice_get ys i ≡ Some y) × R x y
 zip_at R [] ys i x h e = absurd (cc)
 zip_at R (z ∷ xs) [] i x h e = absurd h
 zip_at R (z ∷ xs) (y ∷ ys) zero x h e = (y, refl, subst (λ w. R w y) (some_is e) h.0)
 zip_at R (z ∷ xs) (y ∷ ys) (suc i) x h e = zip_at R xs ys i x h.1 e
 
-pub zip_other : {X Y : Type 0} (R : X → Y → Type 0) (xs : List X) (ys : List Y) (i : ℕ) (y : Y) → AllZip R xs ys → slice_get ys i ≡ Some y → (x : X) × (slice_get xs i ≡ Some x) × R x y
+pub zip_other : {X Y : Type 0} (R : X → Y → Type 0) (xs : List X) (ys : List Y) (i : ℕ) (y : Y) → AllZip R xs ys
+    → slice_get ys i ≡ Some y → (x : X) × (slice_get xs i ≡ Some x) × R x y
 zip_other R xs [] i y h e = absurd (cc)
 zip_other R [] (z ∷ ys) i y h e = absurd h
 zip_other R (x ∷ xs) (z ∷ ys) zero y h e = (x, refl, subst (R x) (some_is e) h.0)
 zip_other R (x ∷ xs) (z ∷ ys) (suc i) y h e = zip_other R xs ys i y h.1 e
 
 -- a draw of a link is one of its draws
-of_link_has : (link : ℕ) (draws : List Draw) (i : ℕ) (d : Draw) → slice_get draws i ≡ Some d → d.link ≡ link → (j : ℕ) × (slice_get (of_link link draws) j ≡ Some d)
+of_link_has : (link : ℕ) (draws : List Draw) (i : ℕ) (d : Draw) → slice_get draws i ≡ Some d → d.link ≡ link
+    → (j : ℕ) × (slice_get (of_link link draws) j ≡ Some d)
 of_link_has link [] i d e own = absurd (cc)
 of_link_has link (x ∷ draws) zero d e own = go (x.link == link) refl
   where
-    go : (c : Bool) → (x.link == link) ≡ c → (j : ℕ) × (slice_get (cond c (x ∷ of_link link draws) (of_link link draws)) j ≡ Some d)
+    go : (c : Bool) → (x.link == link) ≡ c
+        → (j : ℕ) × (slice_get (cond c (x ∷ of_link link draws) (of_link link draws)) j ≡ Some d)
     go true t = (0, e)
     go false t = let same : x.link ≡ link = ap (λ (z : Draw). z.link) (some_is e) ∙ own in absurd (grind (arith, nat_tests))
 of_link_has link (x ∷ draws) (suc i) d e own = go (of_link_has link draws i d e own) (x.link == link)
   where
-    go : ((j : ℕ) × (slice_get (of_link link draws) j ≡ Some d)) → (c : Bool) → (j : ℕ) × (slice_get (cond c (x ∷ of_link link draws) (of_link link draws)) j ≡ Some d)
+    go : ((j : ℕ) × (slice_get (of_link link draws) j ≡ Some d)) → (c : Bool)
+        → (j : ℕ) × (slice_get (cond c (x ∷ of_link link draws) (of_link link draws)) j ≡ Some d)
     go k true = (suc k.0, k.1)
     go k false = k
 
-pub numbered_at : (link base : ℕ) (asks : List Asked) (j : ℕ) (d : Draw) → slice_get (numbered link base asks) j ≡ Some d → (d.index ≡ base + j) × (slice_get asks j ≡ Some d.request)
+pub numbered_at : (link base : ℕ) (asks : List Asked) (j : ℕ) (d : Draw)
+    → slice_get (numbered link base asks) j ≡ Some d → (d.index ≡ base + j) × (slice_get asks j ≡ Some d.request)
 numbered_at link base [] j d e = absurd (cc)
 numbered_at link base (q ∷ asks) zero d e =
     let same : record { link = link; index = base; request = q } ≡ d = some_is e in
@@ -67,7 +73,9 @@ numbered_at link base (q ∷ asks) zero d e =
 numbered_at link base (q ∷ asks) (suc j) d e = let k = numbered_at link (base + 1) asks j d e in (omega (arith, k.0), k.1)
 
 -- a draw of a link is for the request of its index
-pub drawn_for : (w : Worker) (link : ℕ) (asks : List Asked) (i : ℕ) (d : Draw) → of_link link w.draws ≡ numbered link 0 asks → slice_get w.draws i ≡ Some d → d.link ≡ link → slice_get asks d.index ≡ Some d.request
+pub drawn_for : (w : Worker) (link : ℕ) (asks : List Asked) (i : ℕ) (d : Draw)
+    → of_link link w.draws ≡ numbered link 0 asks → slice_get w.draws i ≡ Some d → d.link ≡ link
+    → slice_get asks d.index ≡ Some d.request
 drawn_for w link asks i d own e is =
     let j = of_link_has link w.draws i d e is in
     let n = numbered_at link 0 asks j.0 d (sym (ap (λ (l : List Draw). slice_get l j.0) own) ∙ j.1) in
@@ -75,7 +83,8 @@ drawn_for w link asks i d own e is =
     ap (slice_get asks) at ∙ n.1
 
 -- a put is asked for a put
-put_of : (link index : ℕ) (q : Asked) (r : Record) → ask_of link index q ≡ Some (Puts r) → (link ≡ r.link) × (index ≡ r.index) × (q ≡ Request_of (Put r.key r.value))
+put_of : (link index : ℕ) (q : Asked) (r : Record) → ask_of link index q ≡ Some (Puts r)
+    → (link ≡ r.link) × (index ≡ r.index) × (q ≡ Request_of (Put r.key r.value))
 put_of link index (Request_of (Put k v)) r e =
     let same : record { link = link; index = index; key = k; value = v } ≡ r = puts_is e in
     (ap (λ (z : Record). z.link) same, ap (λ (z : Record). z.index) same, ap (λ (z : Record). Request_of (Put z.key z.value)) same)
@@ -87,7 +96,8 @@ put_of link index (Request_of End) r e = absurd (cc)
 put_of link index (Refused_end code) r e = absurd (cc)
 
 -- one draw has one number
-pub same_draw : (draws : List Draw) (i j : ℕ) (d e : Draw) → Pairwise IsFurther draws → slice_get draws i ≡ Some d → slice_get draws j ≡ Some e → d.link ≡ e.link → d.index ≡ e.index → i ≡ j
+pub same_draw : (draws : List Draw) (i j : ℕ) (d e : Draw) → Pairwise IsFurther draws → slice_get draws i ≡ Some d
+    → slice_get draws j ≡ Some e → d.link ≡ e.link → d.index ≡ e.index → i ≡ j
 same_draw draws i j d e far at to links indexes = elim (cases_lt i j) [
   | inl less ↦ let h = pairwise_at IsFurther draws i j d e far less at to links in absurd (omega (arith, indexes))
   | inr not_less ↦ elim (cases_lt j i) [
@@ -103,7 +113,8 @@ module _ (b : StoreBasis) (end : Trail StoreAsk StoreTold) (history : List Store
     pub here : slice_get workers x.0 ≡ Some worker
     pub drawn : IsOfDraw worker.draws (p, x.1)
 
-  passes_of : (n : ℕ) (w : Worker) → slice_get workers n ≡ Some w → (w.submitted ≡ of_pass n 0 history) × Behind end w.known
+  passes_of : (n : ℕ) (w : Worker) → slice_get workers n ≡ Some w
+      → (w.submitted ≡ of_pass n 0 history) × Behind end w.known
   passes_of n w e =
       let h = placed_at (λ n w. (w.submitted ≡ of_pass n 0 history) × Behind end w.known) 0 workers n w ends.closed.passes e in
       let same : 0 + n ≡ n = omega arith in
@@ -125,7 +136,8 @@ module _ (b : StoreBasis) (end : Trail StoreAsk StoreTold) (history : List Store
       }
 
   -- a later ask of a worker has a greater number
-  rises : (p q : ℕ) (x y : StoreEntry) → p < q → slice_get history p ≡ Some x → slice_get history q ≡ Some y → x.0 ≡ y.0 → IsLater x.1.1 y.1.1
+  rises : (p q : ℕ) (x y : StoreEntry) → p < q → slice_get history p ≡ Some x → slice_get history q ≡ Some y
+      → x.0 ≡ y.0 → IsLater x.1.1 y.1.1
   rises p q x y less e f same =
       let k = get_some workers x.0 (ends.closed.entries p x (get_elem history p x e)) in
       let pass = passes_of x.0 k.0 k.1 in
@@ -180,7 +192,8 @@ module _ (b : StoreBasis) (end : Trail StoreAsk StoreTold) (history : List Store
       let zero_more : 0 + link ≡ link = omega arith in
       record { worker = h.0; here = h.1; keeps = subst (λ l. LinkKeeps b h.0 l k) zero_more h.2 }
 
-  put_asked : (p : ℕ) (x : StoreEntry) (r : Record) → slice_get history p ≡ Some x → asks_at x ≡ Puts r → IsAsked talks r
+  put_asked : (p : ℕ) (x : StoreEntry) (r : Record) → slice_get history p ≡ Some x → asks_at x ≡ Puts r
+      → IsAsked talks r
   put_asked p x r e is =
       let h = putting p x r e is in
       let s = speaking r.link h.of h.of_is in
@@ -190,7 +203,8 @@ module _ (b : StoreBasis) (end : Trail StoreAsk StoreTold) (history : List Store
       let at : slice_get h.of.drawn r.index ≡ Some (Request_of (Put r.key r.value)) = ap (slice_get h.of.drawn) (sym h.index_is) ∙ asked ∙ ap Some h.request in
       (t.0, t.1, ap (λ (l : List Asked). slice_get l r.index) t.2.1.1 ∙ get_left h.of.drawn t.2.1.0 r.index (Request_of (Put r.key r.value)) at)
 
-  put_once : (p q : ℕ) (x y : StoreEntry) (r s : Record) → slice_get history p ≡ Some x → slice_get history q ≡ Some y → asks_at x ≡ Puts r → asks_at y ≡ Puts s → r.link ≡ s.link → r.index ≡ s.index → p ≡ q
+  put_once : (p q : ℕ) (x y : StoreEntry) (r s : Record) → slice_get history p ≡ Some x → slice_get history q ≡ Some y
+      → asks_at x ≡ Puts r → asks_at y ≡ Puts s → r.link ≡ s.link → r.index ≡ s.index → p ≡ q
   put_once p q x y r s e f is too links_are indexes_are =
       let h = putting p x r e is in
       let k = putting q y s f too in
@@ -214,7 +228,8 @@ module _ (b : StoreBasis) (end : Trail StoreAsk StoreTold) (history : List Store
       ]
 
   -- a reply that was kept, in the closed history
-  closed_reply : (w : Worker) (n : ℕ) (q : Asked) (r : Reply) (ask : Option Ask) → slice_get workers n ≡ Some w → r.worker ≡ n → IsReplied b w q r ask → IsAccounted b history end.told q r ask
+  closed_reply : (w : Worker) (n : ℕ) (q : Asked) (r : Reply) (ask : Option Ask) → slice_get workers n ≡ Some w
+      → r.worker ≡ n → IsReplied b w q r ask → IsAccounted b history end.told q r ask
   closed_reply w n q r None here is h = h
   closed_reply w n q r (Some ask) here is h =
       let pass = passes_of n w here in
@@ -250,7 +265,8 @@ module _ (b : StoreBasis) (end : Trail StoreAsk StoreTold) (history : List Store
       lt_trans : {x y z : ℕ} → x < y → y < z → x < z
       lt_trans l m = omega arith
 
-  next_by : (w : Worker) (number link above base : ℕ) (asks : List Asked) (replies : List Reply) → RepliesKeep b w number link above base asks replies → Pairwise IsNext replies
+  next_by : (w : Worker) (number link above base : ℕ) (asks : List Asked) (replies : List Reply)
+      → RepliesKeep b w number link above base asks replies → Pairwise IsNext replies
   next_by w number link above base asks [] h = tt
   next_by w number link above base [] (r ∷ replies) h = absurd h
   next_by w number link above base (q ∷ asks) (r ∷ replies) h =

@@ -14,7 +14,8 @@ use Rattle.demi_served.proofs.Lists.{some_is}
 use Rattle.demi_served.proofs.Folds.{said_open, said_by, said_at, standing_from, added_by, stored_from}
 
 -- nothing is added, or the record of a put that was told to be stored
-pub added_told : (a : Ask) (said : Said) → (added_by a said ≡ []) ⊎ ((r : Record) × (v : ℕ) × (bytes : List ℕ) × (a ≡ Puts r) × (said ≡ Told (Stored v bytes)) × (added_by a said ≡ r ∷ []))
+pub added_told : (a : Ask) (said : Said)
+    → (added_by a said ≡ []) ⊎ ((r : Record) × (v : ℕ) × (bytes : List ℕ) × (a ≡ Puts r) × (said ≡ Told (Stored v bytes)) × (added_by a said ≡ r ∷ []))
 added_told (Puts r) (Told (Stored v bytes)) = inr (r, v, bytes, refl, refl, refl)
 added_told (Puts r) (Told (Found v bytes)) = inl refl
 added_told (Puts r) (Told (Missing v)) = inl refl
@@ -33,7 +34,8 @@ added_told Stops said = inl refl
 abbrev pub IsFirstFault : ℕ → Ask → Said × Standing → Type 0
 IsFirstFault place a x = (x.1.fault ≡ None) ⊎ ((x.1.fault ≡ Some place) × (added_by a x.0 ≡ []) × (x.0 ≡ Fault))
 
-put_fault : (limit place : ℕ) (r : Record) (s : Standing) (k : Option StoreTold) → s.fault ≡ None → IsFirstFault place (Puts r) (put_open limit place r.link r.index s (Request_of (Put r.key r.value)) k)
+put_fault : (limit place : ℕ) (r : Record) (s : Standing) (k : Option StoreTold) → s.fault ≡ None
+    → IsFirstFault place (Puts r) (put_open limit place r.link r.index s (Request_of (Put r.key r.value)) k)
 put_fault limit place r s None h = inl h
 put_fault limit place r s (Some ByDisk) h = go (nat_le limit (length s.records))
   where
@@ -46,7 +48,8 @@ put_fault limit place r s (Some ByMemory) h = go (nat_le limit (length s.records
     go true = inl h
     go false = inl h
 
-pub step_fault : (limit place : ℕ) (s : Standing) (a : Ask) (k : Option StoreTold) → s.fault ≡ None → IsFirstFault place a (said_at limit place s a k)
+pub step_fault : (limit place : ℕ) (s : Standing) (a : Ask) (k : Option StoreTold) → s.fault ≡ None
+    → IsFirstFault place a (said_at limit place s a k)
 step_fault limit place s a k h = go s.stop
   where
     open_ : (a : Ask) (k : Option StoreTold) → IsFirstFault place a (said_open limit place s a k None)
@@ -61,7 +64,8 @@ step_fault limit place s a k h = go s.stop
     go None = subst (λ (o : Option ℕ). IsFirstFault place a (said_open limit place s a k o)) (sym h) (open_ a k)
 
 -- after a fault nothing is added, and the fault stays
-pub broken_step : (limit place g : ℕ) (s : Standing) (a : Ask) (k : Option StoreTold) → s.fault ≡ Some g → (o : Option ℕ) → ((said_by limit place s a k o).1.fault ≡ Some g) × (added_by a (said_by limit place s a k o).0 ≡ [])
+pub broken_step : (limit place g : ℕ) (s : Standing) (a : Ask) (k : Option StoreTold) → s.fault ≡ Some g
+    → (o : Option ℕ) → ((said_by limit place s a k o).1.fault ≡ Some g) × (added_by a (said_by limit place s a k o).0 ≡ [])
 broken_step limit place g s a k h (Some at) = go a
   where
     go : (a : Ask) → ((said_by limit place s a k (Some at)).1.fault ≡ Some g) × (added_by a (said_by limit place s a k (Some at)).0 ≡ [])
@@ -75,7 +79,8 @@ broken_step limit place g s a k h None = subst (λ (o : Option ℕ). ((said_open
     go (Puts r) = (h, refl)
     go (Gets key) = (h, refl)
 
-pub broken_rest : (limit : ℕ) (struck : ℕ → Option StoreTold) (place g : ℕ) (s : Standing) (asks : List Ask) → s.fault ≡ Some g → ((standing_from limit struck place s asks).fault ≡ Some g) × (stored_from limit struck place s asks ≡ [])
+pub broken_rest : (limit : ℕ) (struck : ℕ → Option StoreTold) (place g : ℕ) (s : Standing) (asks : List Ask)
+    → s.fault ≡ Some g → ((standing_from limit struck place s asks).fault ≡ Some g) × (stored_from limit struck place s asks ≡ [])
 broken_rest limit struck place g s [] h = (h, refl)
 broken_rest limit struck place g s (a ∷ asks) h =
     let one = broken_step limit place g s a (struck place) h s.stop in
@@ -96,12 +101,14 @@ module _ (all : List Ask) where
   lower n k m [] le h = le_trans le h
   lower n k m (r ∷ records) le h = (h.0, le_trans le h.1, h.2, h.3)
 
-  one_more : (n m : ℕ) (records : List Record) (r : Record) → FromPuts n records m → IsPutAt m r → FromPuts n (records ++ r ∷ []) (m + 1)
+  one_more : (n m : ℕ) (records : List Record) (r : Record) → FromPuts n records m → IsPutAt m r
+      → FromPuts n (records ++ r ∷ []) (m + 1)
   one_more n m [] r h e = (m, h, e, le_refl (m + 1))
   one_more n m (x ∷ records) r h e = (h.0, h.1, h.2, one_more (h.0 + 1) m records r h.3 e)
 
   -- what a step adds, before what the rest adds
-  added_first : (place m : ℕ) (a : Ask) (said : Said) (rest : List Record) → slice_get all place ≡ Some a → FromPuts (place + 1) rest m → FromPuts place (added_by a said ++ rest) m
+  added_first : (place m : ℕ) (a : Ask) (said : Said) (rest : List Record) → slice_get all place ≡ Some a
+      → FromPuts (place + 1) rest m → FromPuts place (added_by a said ++ rest) m
   added_first place m a said rest e h = elim (added_told a said) [
     | inl none ↦ subst (λ (l : List Record). FromPuts place (l ++ rest) m) (sym none) (lower (place + 1) place m rest (omega arith) h)
     | inr put ↦ subst (λ (l : List Record). FromPuts place (l ++ rest) m) (sym put.5) (place, le_refl place, e ∙ ap Some put.3, h)
@@ -117,14 +124,16 @@ module _ (all : List Ask) where
   next_stand : (place : ℕ) (a : Ask) (asks : List Ask) → StandFrom place (a ∷ asks) → StandFrom (place + 1) asks
   next_stand place a asks h i x e = let n : place + 1 + i ≡ place + suc i = omega arith in ap (slice_get all) n ∙ h (suc i) x e
 
-  stored_come : (limit : ℕ) (struck : ℕ → Option StoreTold) (place m : ℕ) (s : Standing) (asks : List Ask) → place + length asks ≡ m → StandFrom place asks → FromPuts place (stored_from limit struck place s asks) m
+  stored_come : (limit : ℕ) (struck : ℕ → Option StoreTold) (place m : ℕ) (s : Standing) (asks : List Ask)
+      → place + length asks ≡ m → StandFrom place asks → FromPuts place (stored_from limit struck place s asks) m
   stored_come limit struck place m s [] long h = omega (arith, long)
   stored_come limit struck place m s (a ∷ asks) long h =
       added_first place m a (said_at limit place s a (struck place)).0 (stored_from limit struck (place + 1) (said_at limit place s a (struck place)).1 asks) (first_stands place a asks h)
       (stored_come limit struck (place + 1) m (said_at limit place s a (struck place)).1 asks (omega (arith, long)) (next_stand place a asks h))
 
   -- where the disk failed, the stored puts stand below
-  stored_below : (limit : ℕ) (struck : ℕ → Option StoreTold) (place f : ℕ) (s : Standing) (asks : List Ask) → s.fault ≡ None → (standing_from limit struck place s asks).fault ≡ Some f → StandFrom place asks
+  stored_below : (limit : ℕ) (struck : ℕ → Option StoreTold) (place f : ℕ) (s : Standing) (asks : List Ask)
+      → s.fault ≡ None → (standing_from limit struck place s asks).fault ≡ Some f → StandFrom place asks
       → FromPuts place (stored_from limit struck place s asks) f
   stored_below limit struck place f s [] none h stand = absurd (cc)
   stored_below limit struck place f s (a ∷ asks) none h stand = elim (step_fault limit place s a (struck place) none) [
@@ -162,7 +171,8 @@ pub record FaultAt (limit : ℕ) (struck : ℕ → Option StoreTold) (place f : 
   pub here : slice_get asks index ≡ Some ask
   pub said : (said_at limit f (standing_from limit struck place s (take index asks)) ask (struck f)).0 ≡ Fault
 
-pub fault_said : (limit : ℕ) (struck : ℕ → Option StoreTold) (place f : ℕ) (s : Standing) (asks : List Ask) → s.fault ≡ None → (standing_from limit struck place s asks).fault ≡ Some f → FaultAt limit struck place f s asks
+pub fault_said : (limit : ℕ) (struck : ℕ → Option StoreTold) (place f : ℕ) (s : Standing) (asks : List Ask)
+    → s.fault ≡ None → (standing_from limit struck place s asks).fault ≡ Some f → FaultAt limit struck place f s asks
 fault_said limit struck place f s [] none h = absurd (cc)
 fault_said limit struck place f s (a ∷ asks) none h = elim (step_fault limit place s a (struck place) none) [
   | inl still ↦

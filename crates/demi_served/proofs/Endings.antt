@@ -18,7 +18,8 @@ extends_asked a b (inr (same, open_end)) =
 abbrev pub SameFront : Front → Front → Type 0
 SameFront a b = (a ≡ b) ⊎ ((how : Ending) × (a ≡ Ends Open) × (b ≡ Ends how))
 
-content_same : (kind key value : ℕ) (content : List ℕ) (o : Option ℕ) → SameFront (front_of_content false kind key value content o) (front_of_content true kind key value content o)
+content_same : (kind key value : ℕ) (content : List ℕ) (o : Option ℕ)
+    → SameFront (front_of_content false kind key value content o) (front_of_content true kind key value content o)
 content_same kind key value content (Some code) = inl refl
 content_same kind key value content None = go (nat_lt (length content) (key + value))
   where
@@ -42,11 +43,13 @@ front_same bytes = go (length bytes == 0) (nat_lt (length bytes) 6)
     go false true = inr (Refused 5, refl, refl)
     go false false = content_same (head_kind bytes) (head_key bytes) (head_value bytes) (drop 6 bytes) (code_of_head (head_kind bytes) (head_key bytes) (head_value bytes))
 
-after_same : (a b : Front) (f g : List ℕ → Parsed) → SameFront a b → ((rest : List ℕ) → Extends (f rest) (g rest)) → Extends (after_front a f) (after_front b g)
+after_same : (a b : Front) (f g : List ℕ → Parsed) → SameFront a b → ((rest : List ℕ) → Extends (f rest) (g rest))
+    → Extends (after_front a f) (after_front b g)
 after_same a b f g (inr (how, x, y)) h = inr (ap (λ (z : Front). (after_front z f).requests) x ∙ sym (ap (λ (z : Front). (after_front z g).requests) y), ap (λ (z : Front). (after_front z f).how) x)
 after_same a b f g (inl e) h = subst (λ z. Extends (after_front a f) (after_front z g)) e (go a)
   where
-    cons : (q : Request) (x y : Parsed) → Extends x y → Extends (record { requests = q ∷ x.requests; how = x.how }) (record { requests = q ∷ y.requests; how = y.how })
+    cons : (q : Request) (x y : Parsed) → Extends x y
+        → Extends (record { requests = q ∷ x.requests; how = x.how }) (record { requests = q ∷ y.requests; how = y.how })
     cons q x y (inl e) = inl (ap (λ (p : Parsed). record { requests = q ∷ p.requests; how = p.how }) e)
     cons q x y (inr (s, o)) = inr (ap (λ (l : List Request). q ∷ l) s, o)
 
@@ -69,6 +72,7 @@ pub asked_settled : (bytes : List ℕ) → (parse bytes false).how ≢ Open → 
 unfolding parse
 asked_settled bytes settled = go (within_same (length bytes + 1) bytes)
   where
-    go : Extends (parse_within (length bytes + 1) false bytes) (parse_within (length bytes + 1) true bytes) → asked_of (parse_within (length bytes + 1) true bytes).requests (parse_within (length bytes + 1) true bytes).how ≡ asked_of (parse_within (length bytes + 1) false bytes).requests (parse_within (length bytes + 1) false bytes).how
+    go : Extends (parse_within (length bytes + 1) false bytes) (parse_within (length bytes + 1) true bytes)
+        → asked_of (parse_within (length bytes + 1) true bytes).requests (parse_within (length bytes + 1) true bytes).how ≡ asked_of (parse_within (length bytes + 1) false bytes).requests (parse_within (length bytes + 1) false bytes).how
     go (inl e) = ap (λ (p : Parsed). asked_of p.requests p.how) (sym e)
     go (inr (same, open_end)) = absurd (settled open_end)

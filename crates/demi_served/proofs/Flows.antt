@@ -34,7 +34,8 @@ pub pieces_are : (f : List (ℕ × RxOut)) → pieces_in (trail told f) ≡ all_
 pieces_are [] = refl
 pieces_are (o ∷ os) = go (pieces_are os) o.1
   where
-    go : pieces_in (trail told os) ≡ all_bytes os → (x : RxOut) → pieces_in (told_there o.0 (told x) ++ trail told os) ≡ bytes_of x ++ all_bytes os
+    go : pieces_in (trail told os) ≡ all_bytes os → (x : RxOut)
+        → pieces_in (told_there o.0 (told x) ++ trail told os) ≡ bytes_of x ++ all_bytes os
     go rest (Piece v) = ap (λ (l : List ℕ). v.bytes ++ l) rest
     go rest End = rest
     go rest (Fault k) = rest
@@ -44,7 +45,8 @@ pieces_are (o ∷ os) = go (pieces_are os) o.1
     go rest Halted = rest
 
 -- two outcomes that are admitted at one place have the same bytes
-same_answer : (stop : Option ℕ) (op : Option RxOp) (found : Option RxOut) (here : Option RxTold) (n : ℕ) (o x : RxOut) → RxAnswer stop op found here n o → RxAnswer stop op found here n x → bytes_of o ≡ bytes_of x
+same_answer : (stop : Option ℕ) (op : Option RxOp) (found : Option RxOut) (here : Option RxTold) (n : ℕ) (o x : RxOut)
+    → RxAnswer stop op found here n o → RxAnswer stop op found here n x → bytes_of o ≡ bytes_of x
 same_answer (Some s) op found here n o x a b = ap bytes_of (a.0 ∙ sym b.0)
 same_answer None None found here n o x a b = absurd a
 same_answer None (Some Stop) found here n o x a b = ap bytes_of (a ∙ sym b)
@@ -52,14 +54,16 @@ same_answer None (Some (Pop max)) (Some r) here n o x a b = ap bytes_of (a ∙ s
 same_answer None (Some (Pop max)) None here n o x a b = same_told o ∙ ap told_bytes (a.0 ∙ sym b.0) ∙ sym (same_told x)
 
 -- what is no pop gives no bytes
-no_bytes : (stop : Option ℕ) (op : Option RxOp) (found : Option RxOut) (here : Option RxTold) (n : ℕ) (o : RxOut) → RxAnswer stop op found here n o → ((max : ℕ) → op ≡ Some (Pop max) → ⊥) → bytes_of o ≡ []
+no_bytes : (stop : Option ℕ) (op : Option RxOp) (found : Option RxOut) (here : Option RxTold) (n : ℕ) (o : RxOut)
+    → RxAnswer stop op found here n o → ((max : ℕ) → op ≡ Some (Pop max) → ⊥) → bytes_of o ≡ []
 no_bytes (Some s) op found here n o a none = ap bytes_of a.0
 no_bytes None None found here n o a none = absurd a
 no_bytes None (Some Stop) found here n o a none = ap bytes_of a
 no_bytes None (Some (Pop max)) found here n o a none = absurd (none max refl)
 
 -- an admitted outcome is of an operation
-is_there : (stop : Option ℕ) (op : Option RxOp) (found : Option RxOut) (here : Option RxTold) (n : ℕ) (o : RxOut) → RxAnswer stop op found here n o → (d : RxOp) × (op ≡ Some d)
+is_there : (stop : Option ℕ) (op : Option RxOp) (found : Option RxOut) (here : Option RxTold) (n : ℕ) (o : RxOut)
+    → RxAnswer stop op found here n o → (d : RxOp) × (op ≡ Some d)
 is_there (Some s) None found here n o a = absurd a.1
 is_there (Some s) (Some d) found here n o a = (d, refl)
 is_there None None found here n o a = absurd a
@@ -75,7 +79,9 @@ module _ (h : List RxOp) (t : List (ℕ × RxTold)) where
   IsAdmitted o = RxAdmits h t o.0 o.1
 
   -- the outcomes from the place k on, and the pops from there on
-  read_from : (k : ℕ) (f pops : List (ℕ × RxOut)) → InOrder k f → k + length f ≡ length h → Each IsAdmitted f → RiseFrom k pops → Each IsAdmitted pops → ((p max : ℕ) → k ≤ p → slice_get h p ≡ Some (Pop max) → IsPlaceOf p pops) → all_bytes pops ≡ all_bytes f
+  read_from : (k : ℕ) (f pops : List (ℕ × RxOut)) → InOrder k f → k + length f ≡ length h → Each IsAdmitted f
+      → RiseFrom k pops → Each IsAdmitted pops
+      → ((p max : ℕ) → k ≤ p → slice_get h p ≡ Some (Pop max) → IsPlaceOf p pops) → all_bytes pops ≡ all_bytes f
   read_from k [] [] order count af rise ap_ each = refl
   read_from k [] (x ∷ pops) order count af rise ap_ each =
       let d = is_there _ _ _ _ _ x.1 ap_.0 in
@@ -131,7 +137,8 @@ module _ (h : List RxOp) (t : List (ℕ × RxTold)) where
       later p le same (inl e) = absurd (omega (arith, e, same))
       later p le same (inr i) = i
 
-pub all_read : (h : List RxOp) (f pops : List (ℕ × RxOut)) → RxEnd h f → Popped h (trail told f) pops → all_bytes pops ≡ pieces_in (trail told f)
+pub all_read : (h : List RxOp) (f pops : List (ℕ × RxOut)) → RxEnd h f → Popped h (trail told f) pops
+    → all_bytes pops ≡ pieces_in (trail told f)
 all_read h f pops e p = read_from h (trail told f) 0 f pops e.order (zero_more e.count) e.admitted p.rise p.admitted (λ q max le at. p.each q max at) ∙ sym (pieces_are f)
   where
     zero_more : {a b : ℕ} → a ≡ b → 0 + a ≡ b

@@ -20,7 +20,8 @@ get_last : {X : Type 0} (xs : List X) (x : X) → slice_get (xs ++ x ∷ []) (le
 get_last [] x = refl
 get_last (y ∷ xs) x = get_last xs x
 
-get_one_more : {X : Type 0} (xs : List X) (x y : X) (j : ℕ) → slice_get (xs ++ x ∷ []) j ≡ Some y → (slice_get xs j ≡ Some y) ⊎ ((j ≡ length xs) × (x ≡ y))
+get_one_more : {X : Type 0} (xs : List X) (x y : X) (j : ℕ) → slice_get (xs ++ x ∷ []) j ≡ Some y
+    → (slice_get xs j ≡ Some y) ⊎ ((j ≡ length xs) × (x ≡ y))
 get_one_more [] x y zero e = inr (refl, some_is e)
 get_one_more [] x y (suc j) e = absurd (cc)
 get_one_more (z ∷ xs) x y zero e = inl e
@@ -64,7 +65,8 @@ module _ (h : List MemOp) where
       let n : p + suc d ≡ p + d + 1 = omega arith in
       (first.0 ++ last.0, ap (λ m. items (at m)) n ∙ last.1 ∙ ap (λ (l : List (List HalfValue)). l ++ last.0) first.1 ∙ append_assoc (items (at p)) first.0 last.0)
 
-  stays : (p j : ℕ) (x : List HalfValue) → p ≤ length h → slice_get (items (at p)) j ≡ Some x → slice_get (items (counts 1024 h)) j ≡ Some x
+  stays : (p j : ℕ) (x : List HalfValue) → p ≤ length h → slice_get (items (at p)) j ≡ Some x
+      → slice_get (items (counts 1024 h)) j ≡ Some x
   stays p j x le e =
       let d = distance p (length h) le in
       let g = items_grow p d.0 (omega (arith, d.1)) in
@@ -82,7 +84,8 @@ module _ (h : List MemOp) where
     pub here : slice_get h place ≡ Some (Push 0 x)
     pub before : length (items (at place)) ≡ j
 
-  pushed_next : (n j : ℕ) (x : List HalfValue) → n < length h → (slice_get (items (at n)) j ≡ Some x → PushedAt j x) → slice_get (items (at (n + 1))) j ≡ Some x → PushedAt j x
+  pushed_next : (n j : ℕ) (x : List HalfValue) → n < length h → (slice_get (items (at n)) j ≡ Some x → PushedAt j x)
+      → slice_get (items (at (n + 1))) j ≡ Some x → PushedAt j x
   pushed_next n j x less earlier e =
       let k = get_some h n less in
       elim (adds_item 1024 n k.0 (at n) (at n).stop) [
@@ -155,7 +158,8 @@ module _ (h : List MemOp) where
   popped_in (suc n) k le less = let m : suc n ≡ n + 1 = omega arith in popped_next n k (omega arith) (λ l. popped_in n k (omega arith) l) (subst (λ i. k < popped 0 (at i)) m less)
 
   -- what a pop that is accepted after k others gets
-  pop_result : (p k : ℕ) (x : List HalfValue) → (t : PoppedAt k) → slice_get (items (counts 1024 h)) k ≡ Some x → result_at 1024 h t.place ≡ Some (Item x)
+  pop_result : (p k : ℕ) (x : List HalfValue) → (t : PoppedAt k) → slice_get (items (counts 1024 h)) k ≡ Some x
+      → result_at 1024 h t.place ≡ Some (Item x)
   unfolding at
   pop_result p k x t e =
       ap (λ (o : Option MemOp). answer_of o 1024 (counts 1024 (take t.place h)) (counts 1024 h)) t.here
@@ -165,11 +169,13 @@ module _ (h : List MemOp) where
       ∙ ap (λ (o : Option (List HalfValue)). item_or o (has 0 (counts 1024 h).shut) (counts 1024 h).stop) e
 
   -- what is told of a pop
-  told_at : (p : ℕ) (out : MemOut) → slice_get h p ≡ Some (Pop 0) → result_at 1024 h p ≡ Some out → ((s : ℕ) → Stopped (record { 0 = s }) ≡ out → ⊥) → (BadQueue ≡ out → ⊥) → PopTold (at p) (counts 1024 h) out
+  told_at : (p : ℕ) (out : MemOut) → slice_get h p ≡ Some (Pop 0) → result_at 1024 h p ≡ Some out
+      → ((s : ℕ) → Stopped (record { 0 = s }) ≡ out → ⊥) → (BadQueue ≡ out → ⊥) → PopTold (at p) (counts 1024 h) out
   unfolding at
   told_at p out here told a b = pop_told 1024 (counts 1024 (take p h)) (counts 1024 h) out (ap (λ (o : Option MemOp). answer_of o 1024 (counts 1024 (take p h)) (counts 1024 h)) (sym here) ∙ told) a b
 
-  item_told : (p : ℕ) (x : List HalfValue) → slice_get h p ≡ Some (Pop 0) → result_at 1024 h p ≡ Some (Item x) → slice_get (items (counts 1024 h)) (popped 0 (at p)) ≡ Some x
+  item_told : (p : ℕ) (x : List HalfValue) → slice_get h p ≡ Some (Pop 0) → result_at 1024 h p ≡ Some (Item x)
+      → slice_get (items (counts 1024 h)) (popped 0 (at p)) ≡ Some x
   item_told p x here told = by (slice_get (items (counts 1024 h)) (popped 0 (at p))) (has 0 (counts 1024 h).shut) (counts 1024 h).stop (told_at p (Item x) here told (λ s e. absurd (cc)) (λ e. absurd (cc))).gets
     where
       by : (o : Option (List HalfValue)) (b : Bool) (s : Option ℕ) → item_or o b s ≡ Some (Item x) → o ≡ Some x
@@ -178,7 +184,8 @@ module _ (h : List MemOp) where
       by None false None e = absurd (cc)
       by None false (Some s) e = absurd (cc)
 
-  closed_told : (p : ℕ) → slice_get h p ≡ Some (Pop 0) → result_at 1024 h p ≡ Some Closed → length (items (counts 1024 h)) ≤ popped 0 (at p)
+  closed_told : (p : ℕ) → slice_get h p ≡ Some (Pop 0) → result_at 1024 h p ≡ Some Closed
+      → length (items (counts 1024 h)) ≤ popped 0 (at p)
   closed_told p here told = few (items (counts 1024 h)) (popped 0 (at p)) (by (slice_get (items (counts 1024 h)) (popped 0 (at p))) (has 0 (counts 1024 h).shut) (counts 1024 h).stop (told_at p Closed here told (λ s e. absurd (cc)) (λ e. absurd (cc))).gets)
     where
       by : (o : Option (List HalfValue)) (b : Bool) (s : Option ℕ) → item_or o b s ≡ Some Closed → o ≡ None
@@ -191,7 +198,8 @@ module _ (h : List MemOp) where
       few (x ∷ xs) (suc i) e = let l = few xs i e in omega arith
 
   -- an accepted push is an item
-  push_is : (p : ℕ) (x : List HalfValue) → slice_get h p ≡ Some (Push 0 x) → result_at 1024 h p ≡ Some Pushed → slice_get (items (counts 1024 h)) (length (items (at p))) ≡ Some x
+  push_is : (p : ℕ) (x : List HalfValue) → slice_get h p ≡ Some (Push 0 x) → result_at 1024 h p ≡ Some Pushed
+      → slice_get (items (counts 1024 h)) (length (items (at p))) ≡ Some x
   unfolding at
   push_is p x here told =
       let inside = get_within h p (Push 0 x) here in
@@ -199,7 +207,9 @@ module _ (h : List MemOp) where
       stays (p + 1) (length (items (at p))) x (omega arith) (ap (λ (l : List (List HalfValue)). slice_get l (length (items (at p)))) more ∙ get_last (items (at p)) x)
 
   -- two accepted pops of one number are one
-  one_pop : (p q : ℕ) (a c : MemOut) → slice_get h p ≡ Some (Pop 0) → slice_get h q ≡ Some (Pop 0) → PopTold (at p) (counts 1024 h) a → PopTold (at q) (counts 1024 h) c → popped 0 (at p) ≡ popped 0 (at q) → p ≡ q
+  one_pop : (p q : ℕ) (a c : MemOut) → slice_get h p ≡ Some (Pop 0) → slice_get h q ≡ Some (Pop 0)
+      → PopTold (at p) (counts 1024 h) a → PopTold (at q) (counts 1024 h) c → popped 0 (at p) ≡ popped 0 (at q)
+      → p ≡ q
   one_pop p q a c here there s t same = elim (cases_lt p q) [
     | inl less ↦ absurd (earlier p q a here there s less same)
     | inr not_less ↦ elim (cases_lt q p) [
@@ -214,7 +224,8 @@ module _ (h : List MemOp) where
       distance (suc a) zero le = absurd (omega arith)
       distance (suc a) (suc b) le = let k = distance a b (omega arith) in (k.0, omega (arith, k.1))
 
-      earlier : (p q : ℕ) (a : MemOut) → slice_get h p ≡ Some (Pop 0) → slice_get h q ≡ Some (Pop 0) → PopTold (at p) (counts 1024 h) a → p < q → popped 0 (at p) ≡ popped 0 (at q) → ⊥
+      earlier : (p q : ℕ) (a : MemOut) → slice_get h p ≡ Some (Pop 0) → slice_get h q ≡ Some (Pop 0)
+          → PopTold (at p) (counts 1024 h) a → p < q → popped 0 (at p) ≡ popped 0 (at q) → ⊥
       earlier p q a here there s less same =
           let inside = get_within h q (Pop 0) there in
           let d = distance p q (omega arith) in
@@ -226,12 +237,14 @@ module _ (h : List MemOp) where
           over : {a b c d : ℕ} → b ≤ c → b ≡ a + 1 → c ≡ d → a ≡ d → ⊥
           over l e f g = absurd (omega (arith, e, f, g))
 
-says_at : (history : List MemEntry) (p n t : ℕ) (op : MemOp) → slice_get history p ≡ Some (n, (t, op)) → slice_get (says history) p ≡ Some op
+says_at : (history : List MemEntry) (p n t : ℕ) (op : MemOp) → slice_get history p ≡ Some (n, (t, op))
+    → slice_get (says history) p ≡ Some op
 says_at [] p n t op e = absurd (cc)
 says_at (y ∷ history) zero n t op e = ap (λ (z : MemEntry). Some z.1.1) (some_is e)
 says_at (y ∷ history) (suc p) n t op e = says_at history p n t op e
 
-entry_at : (history : List MemEntry) (p : ℕ) (op : MemOp) → slice_get (says history) p ≡ Some op → (n : ℕ) × (t : ℕ) × (slice_get history p ≡ Some (n, (t, op)))
+entry_at : (history : List MemEntry) (p : ℕ) (op : MemOp) → slice_get (says history) p ≡ Some op
+    → (n : ℕ) × (t : ℕ) × (slice_get history p ≡ Some (n, (t, op)))
 entry_at [] p op e = absurd (cc)
 entry_at (y ∷ history) zero op e = (y.0, y.1.0, ap (λ (o : MemOp). Some (y.0, (y.1.0, o))) (some_is e))
 entry_at (y ∷ history) (suc p) op e = entry_at history p op e
@@ -241,7 +254,8 @@ module _ (links workers : ℕ) (history : List MemEntry) (shared : Shared links 
   h = says history
 
   -- one item has one number
-  same_item : (j i : ℕ) (x y : List HalfValue) → slice_get (items (counts 1024 h)) j ≡ Some x → slice_get (items (counts 1024 h)) i ≡ Some y → number_of x ≡ number_of y → j ≡ i
+  same_item : (j i : ℕ) (x y : List HalfValue) → slice_get (items (counts 1024 h)) j ≡ Some x
+      → slice_get (items (counts 1024 h)) i ≡ Some y → number_of x ≡ number_of y → j ≡ i
   same_item j i x y e f same =
       let a = item_pushed h j x e in
       let c = item_pushed h i y f in

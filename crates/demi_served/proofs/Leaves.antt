@@ -22,7 +22,8 @@ use Rattle.demi_served.proofs.Folds.{said_open, said_by, said_at, standing_from,
 use Rattle.demi_served.proofs.Orders.{wants, before, SaidFrom, RepliesFrom, asked_step, step_calm, plain_step}
 
 -- a stop leaves the records
-pub stops_keep : (limit : ℕ) (f : ℕ → Option StoreTold) (place : ℕ) (s : Standing) (stops : List Numbered) → AllByRecursion (λ x. x.ask ≡ Stops) stops → (standing_from limit f place s (wants stops)).records ≡ s.records
+pub stops_keep : (limit : ℕ) (f : ℕ → Option StoreTold) (place : ℕ) (s : Standing) (stops : List Numbered)
+    → AllByRecursion (λ x. x.ask ≡ Stops) stops → (standing_from limit f place s (wants stops)).records ≡ s.records
 stops_keep limit f place s [] h = refl
 stops_keep limit f place s (x ∷ stops) h =
     stops_keep limit f (place + 1) (said_at limit place s x.ask (f place)).1 stops h.1
@@ -54,16 +55,22 @@ module _ (b : StoreBasis) (history : List StoreEntry) (trail : List (ℕ × Stor
   drop_next [] (suc p) x ys e = absurd (cc)
   drop_next (z ∷ xs) (suc p) x ys e = let n : suc p + 1 ≡ suc (p + 1) = omega arith in ap (λ m. drop m (z ∷ xs)) n ∙ drop_next xs p x ys e
 
-  pub records_in_order : (i p : ℕ) (qs : List Asked) (rs : List Reply) → drop p all_asks ≡ wants (asked_with (i + 1) (numbered 0 i qs) ++ stops) → SaidFrom b history trail alone rises stops p (asked_with (i + 1) (numbered 0 i qs) ++ stops)
-      → RepliesFrom b history trail alone rises stops i qs rs → length rs ≡ length qs → final.records ≡ (at p).records ++ (serial_from i (at p).records b.limit qs).records
+  pub records_in_order : (i p : ℕ) (qs : List Asked) (rs : List Reply)
+      → drop p all_asks ≡ wants (asked_with (i + 1) (numbered 0 i qs) ++ stops)
+      → SaidFrom b history trail alone rises stops p (asked_with (i + 1) (numbered 0 i qs) ++ stops)
+      → RepliesFrom b history trail alone rises stops i qs rs → length rs ≡ length qs
+      → final.records ≡ (at p).records ++ (serial_from i (at p).records b.limit qs).records
   records_in_order i p [] rs rest said h long = at_end p rest ∙ sym (append-nil (at p).records)
   records_in_order i p (q ∷ qs) [] rest said h long = absurd (omega (arith, long))
   records_in_order i p (q ∷ qs) (r ∷ rs) rest said h long = go (ask_of 0 i q) refl rest said h.2 (λ m e s. records_in_order (i + 1) m qs rs e s h.3 (omega (arith, long)))
     where
-      join : (records more new : List Record) → more ≡ records ++ new → final.records ≡ more ++ (serial_from (i + 1) more b.limit qs).records → final.records ≡ records ++ (new ++ (serial_from (i + 1) (records ++ new) b.limit qs).records)
+      join : (records more new : List Record) → more ≡ records ++ new
+          → final.records ≡ more ++ (serial_from (i + 1) more b.limit qs).records
+          → final.records ≡ records ++ (new ++ (serial_from (i + 1) (records ++ new) b.limit qs).records)
       join records more new same e = e ∙ ap (λ (l : List Record). l ++ (serial_from (i + 1) l b.limit qs).records) same ∙ append_assoc records new (serial_from (i + 1) (records ++ new) b.limit qs).records
 
-      go : (o : Option Ask) → ask_of 0 i q ≡ o → drop p all_asks ≡ wants (with_ask (i + 1) o (asked_with (i + 1 + 1) (numbered 0 (i + 1) qs)) ++ stops)
+      go : (o : Option Ask) → ask_of 0 i q ≡ o
+          → drop p all_asks ≡ wants (with_ask (i + 1) o (asked_with (i + 1 + 1) (numbered 0 (i + 1) qs)) ++ stops)
           → SaidFrom b history trail alone rises stops p (with_ask (i + 1) o (asked_with (i + 1 + 1) (numbered 0 (i + 1) qs)) ++ stops) → IsAccounted b history trail q r o
           → ((m : ℕ) → drop m all_asks ≡ wants (asked_with (i + 1 + 1) (numbered 0 (i + 1) qs) ++ stops) → SaidFrom b history trail alone rises stops m (asked_with (i + 1 + 1) (numbered 0 (i + 1) qs) ++ stops) → final.records ≡ (at m).records ++ (serial_from (i + 1) (at m).records b.limit qs).records)
           → final.records ≡ (at p).records ++ (serial_from i (at p).records b.limit (q ∷ qs)).records
@@ -78,7 +85,8 @@ module _ (b : StoreBasis) (history : List StoreEntry) (trail : List (ℕ × Stor
           (again (p + 1) (drop_next all_asks p ask (wants (asked_with (i + 1 + 1) (numbered 0 (i + 1) qs) ++ stops)) rest) (λ j x e. (let n : p + 1 + j ≡ p + suc j = omega arith in ap (slice_get (asked_by (says history))) n ∙ said (suc j) x e)))
 
 -- The last number that was drawn may have no reply: what its ask may have left.
-pub stops_calm : (limit : ℕ) (f : ℕ → Option StoreTold) (place : ℕ) (s : Standing) (stops : List Numbered) → AllByRecursion (λ x. x.ask ≡ Stops) stops → (standing_from limit f place s (wants stops)).fault ≡ s.fault
+pub stops_calm : (limit : ℕ) (f : ℕ → Option StoreTold) (place : ℕ) (s : Standing) (stops : List Numbered)
+    → AllByRecursion (λ x. x.ask ≡ Stops) stops → (standing_from limit f place s (wants stops)).fault ≡ s.fault
 stops_calm limit f place s [] h = refl
 stops_calm limit f place s (x ∷ stops) h =
     stops_calm limit f (place + 1) (said_at limit place s x.ask (f place)).1 stops h.1
@@ -95,7 +103,8 @@ MayLeave limit index q s place next =
     ⊎ (((next.records ≡ s.records ++ added s.records limit 0 index q) × (next.fault ≡ None))
     ⊎ ((next.records ≡ s.records) × (next.fault ≡ Some place) × ((r : Record) → ask_of 0 index q ≡ Some (Puts r) → added s.records limit 0 index q ≡ r ∷ [])))
 
-put_leaves : (limit place index : ℕ) (key value : List ℕ) (s : Standing) (k : Option StoreTold) (o : Option ℕ) → s.fault ≡ None
+put_leaves : (limit place index : ℕ) (key value : List ℕ) (s : Standing) (k : Option StoreTold) (o : Option ℕ)
+    → s.fault ≡ None
     → MayLeave limit index (Request_of (Put key value)) s place (said_by limit place s (Puts (record { link = 0; index = index; key = key; value = value })) k o).1
 put_leaves limit place index key value s k (Some at) none = inl (refl, none)
 put_leaves limit place index key value s k None none = subst (λ (x : Option ℕ). MayLeave limit index q s place (said_open limit place s (Puts r) k x).1) (sym none) (go k)
@@ -131,7 +140,8 @@ put_leaves limit place index key value s k None none = subst (λ (x : Option ℕ
         by true = inr (inl (refl, none))
         by false = inl (refl, none)
 
-get_leaves : (limit place index : ℕ) (key : List ℕ) (s : Standing) (k : Option StoreTold) (o : Option ℕ) → s.fault ≡ None → MayLeave limit index (Request_of (Get key)) s place (said_by limit place s (Gets key) k o).1
+get_leaves : (limit place index : ℕ) (key : List ℕ) (s : Standing) (k : Option StoreTold) (o : Option ℕ)
+    → s.fault ≡ None → MayLeave limit index (Request_of (Get key)) s place (said_by limit place s (Gets key) k o).1
 get_leaves limit place index key s k (Some at) none = inl (refl, none)
 get_leaves limit place index key s k None none = subst (λ (x : Option ℕ). MayLeave limit index (Request_of (Get key)) s place (said_open limit place s (Gets key) k x).1) (sym none) (go k)
   where
@@ -140,13 +150,15 @@ get_leaves limit place index key s k None none = subst (λ (x : Option ℕ). May
     go (Some ByDisk) = inr (inr (refl, refl, λ r e. absurd (cc)))
     go (Some ByMemory) = inl (refl, none)
 
-pub leaves : (limit place index : ℕ) (q : Asked) (ask : Ask) (s : Standing) (k : Option StoreTold) → ask_of 0 index q ≡ Some ask → s.fault ≡ None → MayLeave limit index q s place (said_at limit place s ask k).1
+pub leaves : (limit place index : ℕ) (q : Asked) (ask : Ask) (s : Standing) (k : Option StoreTold)
+    → ask_of 0 index q ≡ Some ask → s.fault ≡ None → MayLeave limit index q s place (said_at limit place s ask k).1
 leaves limit place index (Request_of (Put key value)) ask s k is none = subst (λ (x : Ask). MayLeave limit index (Request_of (Put key value)) s place (said_at limit place s x k).1) (some_is is) (put_leaves limit place index key value s k s.stop none)
 leaves limit place index (Request_of (Get key)) ask s k is none = subst (λ (x : Ask). MayLeave limit index (Request_of (Get key)) s place (said_at limit place s x k).1) (some_is is) (get_leaves limit place index key s k s.stop none)
 leaves limit place index (Request_of End) ask s k is none = absurd (cc)
 leaves limit place index (Refused_end code) ask s k is none = absurd (cc)
 
-pub serial_push : (i limit : ℕ) (records : List Record) (qs : List Asked) (q : Asked) → (serial_from i records limit (qs ++ q ∷ [])).records ≡ (serial_from i records limit qs).records ++ added (records ++ (serial_from i records limit qs).records) limit 0 (i + length qs) q
+pub serial_push : (i limit : ℕ) (records : List Record) (qs : List Asked) (q : Asked)
+    → (serial_from i records limit (qs ++ q ∷ [])).records ≡ (serial_from i records limit qs).records ++ added (records ++ (serial_from i records limit qs).records) limit 0 (i + length qs) q
 serial_push i limit records [] q =
     let n : i ≡ i + 0 = omega arith in
     append-nil (added records limit 0 i q) ∙ ap (λ m. added records limit 0 m q) n ∙ ap (λ (l : List Record). added l limit 0 (i + 0) q) (sym (append-nil records))
@@ -172,15 +184,19 @@ module _ (b : StoreBasis) (history : List StoreEntry) (trail : List (ℕ × Stor
     pub calm : (stand place).fault ≡ None
     pub rest : drop place asks_all ≡ wants (asked_with (i + length qs + 1) (numbered 0 (i + length qs) tail) ++ stops)
 
-  pub reach : (i p : ℕ) (qs tail : List Asked) (rs : List Reply) → (stand p).fault ≡ None → drop p asks_all ≡ wants (asked_with (i + 1) (numbered 0 i (qs ++ tail)) ++ stops) → SaidFrom b history trail alone rises stops p (asked_with (i + 1) (numbered 0 i (qs ++ tail)) ++ stops)
-      → RepliesFrom b history trail alone rises stops i qs rs → length rs ≡ length qs → Reached i (stand p).records qs tail
+  pub reach : (i p : ℕ) (qs tail : List Asked) (rs : List Reply) → (stand p).fault ≡ None
+      → drop p asks_all ≡ wants (asked_with (i + 1) (numbered 0 i (qs ++ tail)) ++ stops)
+      → SaidFrom b history trail alone rises stops p (asked_with (i + 1) (numbered 0 i (qs ++ tail)) ++ stops)
+      → RepliesFrom b history trail alone rises stops i qs rs → length rs ≡ length qs
+      → Reached i (stand p).records qs tail
   reach i p [] tail rs calm rest said h long =
       let n : i ≡ i + 0 = omega arith in
       record { place = p; records = sym (append-nil (stand p).records); calm = calm; rest = rest ∙ ap (λ m. wants (asked_with (m + 1) (numbered 0 m tail) ++ stops)) n }
   reach i p (q ∷ qs) tail [] calm rest said h long = absurd (omega (arith, long))
   reach i p (q ∷ qs) tail (r ∷ rs) calm rest said h long = go (ask_of 0 i q) refl rest said h.2 (λ m c e s. reach (i + 1) m qs tail rs c e s h.3 (omega (arith, long)))
     where
-      on : (records more : List Record) → more ≡ records ++ added records b.limit 0 i q → Reached (i + 1) more qs tail → Reached i records (q ∷ qs) tail
+      on : (records more : List Record) → more ≡ records ++ added records b.limit 0 i q → Reached (i + 1) more qs tail
+          → Reached i records (q ∷ qs) tail
       on records more same e =
           let new : List Record = added records b.limit 0 i q in
           let n : i + 1 + length qs ≡ i + length (q ∷ qs) = omega arith in
@@ -191,7 +207,8 @@ module _ (b : StoreBasis) (history : List StoreEntry) (trail : List (ℕ × Stor
             rest = e.rest ∙ ap (λ m. wants (asked_with (m + 1) (numbered 0 m tail) ++ stops)) n;
           }
 
-      go : (o : Option Ask) → ask_of 0 i q ≡ o → drop p asks_all ≡ wants (with_ask (i + 1) o (asked_with (i + 1 + 1) (numbered 0 (i + 1) (qs ++ tail))) ++ stops)
+      go : (o : Option Ask) → ask_of 0 i q ≡ o
+          → drop p asks_all ≡ wants (with_ask (i + 1) o (asked_with (i + 1 + 1) (numbered 0 (i + 1) (qs ++ tail))) ++ stops)
           → SaidFrom b history trail alone rises stops p (with_ask (i + 1) o (asked_with (i + 1 + 1) (numbered 0 (i + 1) (qs ++ tail))) ++ stops) → IsAccounted b history trail q r o
           → ((m : ℕ) → (stand m).fault ≡ None → drop m asks_all ≡ wants (asked_with (i + 1 + 1) (numbered 0 (i + 1) (qs ++ tail)) ++ stops) → SaidFrom b history trail alone rises stops m (asked_with (i + 1 + 1) (numbered 0 (i + 1) (qs ++ tail)) ++ stops) → Reached (i + 1) (stand m).records qs tail)
           → Reached i (stand p).records (q ∷ qs) tail

@@ -50,16 +50,19 @@ SaidEach limit struck p s [] = Unit {0}
 SaidEach limit struck p s (x ∷ xs) = AnswerIs (said_at limit p s (asks_for x.0.op) (struck p)).0 x.1.answer × SaidEach limit struck (p + 1) (said_at limit p s (asks_for x.0.op) (struck p)).1 xs
 
 module _ {D : Type 0} (bytes : D → Option (List ℕ)) (held faults : D → ℕ) (appends : D → List ℕ → Bool → D → Type 0) (looks : D → D → Type 0) where
-  quiet_log : (la lb : DiskLog D) (o : StoreOp) (s : Said) (answer : StoreAnswer) → IsQuiet s → AnswerIs s answer → LogGoes bytes held faults appends looks la lb o answer → bytes lb.disk ≡ bytes la.disk
+  quiet_log : (la lb : DiskLog D) (o : StoreOp) (s : Said) (answer : StoreAnswer) → IsQuiet s → AnswerIs s answer
+      → LogGoes bytes held faults appends looks la lb o answer → bytes lb.disk ≡ bytes la.disk
   quiet_log la lb o (Broken p) answer q is goes = by o (by_answer bytes held faults appends looks la lb o answer (said.Broken (record { 0 = p })) is goes)
     where
-      by : (o : StoreOp) → LogGoes bytes held faults appends looks la lb o (said.Broken (record { 0 = p })) → bytes lb.disk ≡ bytes la.disk
+      by : (o : StoreOp) → LogGoes bytes held faults appends looks la lb o (said.Broken (record { 0 = p }))
+          → bytes lb.disk ≡ bytes la.disk
       by (op.Put link index key x) g = ap (λ (l : DiskLog D). bytes l.disk) g
       by (op.Get key room) g = ap (λ (l : DiskLog D). bytes l.disk) g
       by op.Stop g = ap (λ (l : DiskLog D). bytes l.disk) g
   quiet_log la lb o (Stopped p) answer q is goes = by o (by_answer bytes held faults appends looks la lb o answer (said.Stopped (record { 0 = p })) is goes)
     where
-      by : (o : StoreOp) → LogGoes bytes held faults appends looks la lb o (said.Stopped (record { 0 = p })) → bytes lb.disk ≡ bytes la.disk
+      by : (o : StoreOp) → LogGoes bytes held faults appends looks la lb o (said.Stopped (record { 0 = p }))
+          → bytes lb.disk ≡ bytes la.disk
       by (op.Put link index key x) g = ap (λ (l : DiskLog D). bytes l.disk) g
       by (op.Get key room) g = ap (λ (l : DiskLog D). bytes l.disk) g
       by op.Stop g = ap (λ (l : DiskLog D). bytes l.disk) g
@@ -74,7 +77,9 @@ module _ {D : Type 0} (bytes : D → Option (List ℕ)) (held faults : D → ℕ
   quiet_log la lb o NoMemory answer q is goes = absurd q
 
   module _ (limit : ℕ) (struck : ℕ → Option StoreTold) where
-    quiet_run : (xs : List (StoreAsk × StoreOut)) (p g : ℕ) (s : Standing) (a c : EngineValue D) → Steps bytes held faults appends looks xs a c → SaidEach limit struck p s xs → s.fault ≡ Some g → bytes c.core.log.disk ≡ bytes a.core.log.disk
+    quiet_run : (xs : List (StoreAsk × StoreOut)) (p g : ℕ) (s : Standing) (a c : EngineValue D)
+        → Steps bytes held faults appends looks xs a c → SaidEach limit struck p s xs → s.fault ≡ Some g
+        → bytes c.core.log.disk ≡ bytes a.core.log.disk
     quiet_run [] p g s a c same each h = ap (λ (v : EngineValue D). bytes v.core.log.disk) same
     quiet_run (x ∷ xs) p g s a c steps each h =
         let quiet = quiet_after limit p g s (asks_for x.0.op) (struck p) h in
@@ -88,7 +93,9 @@ module _ {D : Type 0} (bytes : D → Option (List ℕ)) (held faults : D → ℕ
       pub is : now ≡ Some (old ++ (entries_of (stored_from limit struck p s (asks_in xs) ++ extra) ++ torn))
       pub left : Leaves (standing_from limit struck p s (asks_in xs)).fault p (asks_in xs) extra torn
 
-    pub run : (xs : List (StoreAsk × StoreOut)) (p : ℕ) (s : Standing) (a c : EngineValue D) (old : List ℕ) → Steps bytes held faults appends looks xs a c → SaidEach limit struck p s xs → s.fault ≡ None → bytes a.core.log.disk ≡ Some old → Ran old p s xs (bytes c.core.log.disk)
+    pub run : (xs : List (StoreAsk × StoreOut)) (p : ℕ) (s : Standing) (a c : EngineValue D) (old : List ℕ)
+        → Steps bytes held faults appends looks xs a c → SaidEach limit struck p s xs → s.fault ≡ None
+        → bytes a.core.log.disk ≡ Some old → Ran old p s xs (bytes c.core.log.disk)
     run [] p s a c old same each none h = record { extra = []; torn = []; is = ap (λ (v : EngineValue D). bytes v.core.log.disk) same ∙ h ∙ ap Some (sym (append-nil old)); left = inl (refl, refl) }
     run (x ∷ xs) p s a c old steps each none h = go (step_writes bytes held faults appends looks old a.core.log steps.0.core.log x.0.op t.0 x.1.answer each.0 steps.1.moves.log h) (step_fault limit p s ask (struck p) none)
         (λ now still. run xs (p + 1) t.1 steps.0 c now steps.2 each.1 still)
@@ -109,7 +116,9 @@ module _ {D : Type 0} (bytes : D → Option (List ℕ)) (held faults : D → ℕ
         b = steps.0
 
         -- after the fault
-        over : t.1.fault ≡ Some p → (new ≡ []) → (extra : List Record) (torn now : List ℕ) → bytes b.core.log.disk ≡ Some now → now ≡ old ++ (entries_of extra ++ torn) → Leaves (Some p) p (ask ∷ asks_in xs) extra torn → Ran old p s (x ∷ xs) (bytes c.core.log.disk)
+        over : t.1.fault ≡ Some p → (new ≡ []) → (extra : List Record) (torn now : List ℕ)
+            → bytes b.core.log.disk ≡ Some now → now ≡ old ++ (entries_of extra ++ torn)
+            → Leaves (Some p) p (ask ∷ asks_in xs) extra torn → Ran old p s (x ∷ xs) (bytes c.core.log.disk)
         over fault empty extra torn now here is left =
             let k = broken_rest limit struck (p + 1) p t.1 (asks_in xs) fault in
             let none_stored : new ++ rest ≡ [] = ap (λ (l : List Record). l ++ rest) empty ∙ k.1 in
@@ -120,7 +129,8 @@ module _ {D : Type 0} (bytes : D → Option (List ℕ)) (held faults : D → ℕ
               left = subst (λ (f : Option ℕ). Leaves f p (ask ∷ asks_in xs) extra torn) (sym k.0) left;
             }
 
-        onwards : (now : List ℕ) → now ≡ old ++ entries_of new → Ran now (p + 1) t.1 xs (bytes c.core.log.disk) → Ran old p s (x ∷ xs) (bytes c.core.log.disk)
+        onwards : (now : List ℕ) → now ≡ old ++ entries_of new → Ran now (p + 1) t.1 xs (bytes c.core.log.disk)
+            → Ran old p s (x ∷ xs) (bytes c.core.log.disk)
         onwards now is r =
             let joined : now ++ (entries_of (rest ++ r.extra) ++ r.torn) ≡ old ++ (entries_of ((new ++ rest) ++ r.extra) ++ r.torn) =
             ap (λ (l : List ℕ). l ++ (entries_of (rest ++ r.extra) ++ r.torn)) is ∙ append_assoc old (entries_of new) (entries_of (rest ++ r.extra) ++ r.torn)
@@ -129,11 +139,14 @@ module _ {D : Type 0} (bytes : D → Option (List ℕ)) (held faults : D → ℕ
             ∙ ap (λ (l : List Record). old ++ (entries_of l ++ r.torn)) (sym (append_assoc new rest r.extra)) in
             record { extra = r.extra; torn = r.torn; is = r.is ∙ ap Some joined; left = later r.left }
           where
-            later : {f : Option ℕ} {extra : List Record} {torn : List ℕ} → Leaves f (p + 1) (asks_in xs) extra torn → Leaves f p (ask ∷ asks_in xs) extra torn
+            later : {f : Option ℕ} {extra : List Record} {torn : List ℕ} → Leaves f (p + 1) (asks_in xs) extra torn
+                → Leaves f p (ask ∷ asks_in xs) extra torn
             later (inl none) = inl none
             later (inr (q, r, k, at, here, what)) = let n : p + 1 + q ≡ p + suc q = omega arith in inr (suc q, r, k, at ∙ ap Some n, here, what)
 
-        torn_or_whole : (r : Record) (k : ℕ) → ask ≡ Puts r → t.0 ≡ Fault → bytes b.core.log.disk ≡ Some (old ++ take k (entry (payload r))) → Ran old p s (x ∷ xs) (bytes c.core.log.disk)
+        torn_or_whole : (r : Record) (k : ℕ) → ask ≡ Puts r → t.0 ≡ Fault
+            → bytes b.core.log.disk ≡ Some (old ++ take k (entry (payload r)))
+            → Ran old p s (x ∷ xs) (bytes c.core.log.disk)
         torn_or_whole r k is fault here =
             let e : List ℕ = entry (payload r) in
             let stands = fault_stands limit p s ask (struck p) none fault in
@@ -144,21 +157,25 @@ module _ {D : Type 0} (bytes : D → Option (List ℕ)) (held faults : D → ℕ
               | inr not_less ↦ over stands empty (r ∷ []) [] (old ++ take k e) here (ap (λ (l : List ℕ). old ++ l) (take_all k e (omega arith) ∙ sym (append-nil e) ∙ sym (append-nil (e ++ [])))) (inr (0, r, k, ap Some zero_more, ap Some is, inl (refl, refl)))
             ]
 
-        go : StepWrites bytes held faults appends looks old (bytes b.core.log.disk) ask t.0 → IsFirstFault p ask t → ((now : List ℕ) → t.1.fault ≡ None → bytes b.core.log.disk ≡ Some now → Ran now (p + 1) t.1 xs (bytes c.core.log.disk)) → Ran old p s (x ∷ xs) (bytes c.core.log.disk)
+        go : StepWrites bytes held faults appends looks old (bytes b.core.log.disk) ask t.0 → IsFirstFault p ask t
+            → ((now : List ℕ) → t.1.fault ≡ None → bytes b.core.log.disk ≡ Some now → Ran now (p + 1) t.1 xs (bytes c.core.log.disk)) → Ran old p s (x ∷ xs) (bytes c.core.log.disk)
         go (inl wrote) (inl still) more = onwards (old ++ entries_of new) refl (more (old ++ entries_of new) still wrote)
         go (inl wrote) (inr now) more = over now.0 now.1 [] [] (old ++ entries_of new) wrote (ap (λ (l : List Record). old ++ entries_of l) now.1) (inl (refl, refl))
         go (inr (r, k, is, fault, here)) f more = torn_or_whole r k is fault here
 
 -- Where the disk failed, its count rose.
 module _ {D : Type 0} (bytes : D → Option (List ℕ)) (held faults : D → ℕ) (appends : D → List ℕ → Bool → D → Type 0) (looks : D → D → Type 0) (limit : ℕ) (struck : ℕ → Option StoreTold) where
-  never_less : (xs : List (StoreAsk × StoreOut)) (a c : EngineValue D) → Steps bytes held faults appends looks xs a c → faults a.core.log.disk ≤ faults c.core.log.disk
+  never_less : (xs : List (StoreAsk × StoreOut)) (a c : EngineValue D) → Steps bytes held faults appends looks xs a c
+      → faults a.core.log.disk ≤ faults c.core.log.disk
   never_less [] a c same = equal (ap (λ (v : EngineValue D). faults v.core.log.disk) same)
     where
       equal : {m n : ℕ} → n ≡ m → m ≤ n
       equal e = omega (arith, e)
   never_less (x ∷ xs) a c steps = let one = steps.1.moves.later in let rest = never_less xs steps.0 c steps.2 in omega arith
 
-  rose_run : (xs : List (StoreAsk × StoreOut)) (p f : ℕ) (s : Standing) (a c : EngineValue D) → Steps bytes held faults appends looks xs a c → SaidEach limit struck p s xs → s.fault ≡ None → (standing_from limit struck p s (asks_in xs)).fault ≡ Some f
+  rose_run : (xs : List (StoreAsk × StoreOut)) (p f : ℕ) (s : Standing) (a c : EngineValue D)
+      → Steps bytes held faults appends looks xs a c → SaidEach limit struck p s xs → s.fault ≡ None
+      → (standing_from limit struck p s (asks_in xs)).fault ≡ Some f
       → Rose (faults a.core.log.disk) (faults c.core.log.disk)
   rose_run [] p f s a c same each none h = absurd (never (sym none ∙ h))
     where
@@ -191,7 +208,9 @@ module _ (b : StoreBasis) (h : List StoreAsk) (t : List (ℕ × StoreTold)) wher
   abbrev IsAdmitted : ℕ × StoreOut → Type 0
   IsAdmitted o = (o.0 < length h) × Admits b h t o.0 o.1
 
-  said_each : (xs : List (StoreAsk × StoreOut)) (p : ℕ) (s : Standing) → s ≡ below b.limit (struck_at t) b.records (asked_in h) p → Each IsAdmitted (outs p xs) → ((i : ℕ) (d : StoreAsk) → slice_get (map (λ x. x.0) xs) i ≡ Some d → slice_get h (p + i) ≡ Some d)
+  said_each : (xs : List (StoreAsk × StoreOut)) (p : ℕ) (s : Standing)
+      → s ≡ below b.limit (struck_at t) b.records (asked_in h) p → Each IsAdmitted (outs p xs)
+      → ((i : ℕ) (d : StoreAsk) → slice_get (map (λ x. x.0) xs) i ≡ Some d → slice_get h (p + i) ≡ Some d)
       → SaidEach b.limit (struck_at t) p s xs
   said_each [] p s is each stands = tt
   said_each (x ∷ xs) p s is each stands =
@@ -212,7 +231,8 @@ same_asks [] = refl
 same_asks (x ∷ xs) = ap (λ (l : List Ask). asks_for x.0.op ∷ l) (same_asks xs)
 
 -- what was left, as one of the log's ends
-left_is : (fault : Option ℕ) (asks : List Ask) (extra : List Record) (torn : List ℕ) → Leaves fault 0 asks extra torn → IsLeft fault asks extra × IsTorn fault asks torn × ((extra ≡ []) ⊎ (torn ≡ []))
+left_is : (fault : Option ℕ) (asks : List Ask) (extra : List Record) (torn : List ℕ) → Leaves fault 0 asks extra torn
+    → IsLeft fault asks extra × IsTorn fault asks torn × ((extra ≡ []) ⊎ (torn ≡ []))
 left_is fault asks extra torn (inl none) = (inl none.0, inl none.1, inl none.0)
 left_is fault asks extra torn (inr (q, r, k, at, here, inl (one, none))) = let n : 0 + q ≡ q = omega arith in (inr (q, r, at ∙ ap Some n, here, one), inl none, inr none)
 left_is fault asks extra torn (inr (q, r, k, at, here, inr (none, less, part))) = let n : 0 + q ≡ q = omega arith in (inl none, inr (q, r, k, at ∙ ap Some n, here, less, part), inl none)
@@ -225,7 +245,9 @@ pub record Fresh {D : Type 0} (bytes : D → Option (List ℕ)) (held faults : D
   pub each : SaidEach c.base.limit (struck_at t) 0 (opened c.base.records) did
 
 fresh : {D : Type 0} (bytes : D → Option (List ℕ)) (held faults : D → ℕ) (appends : D → List ℕ → Bool → D → Type 0) (looks : D → D → Type 0) (a c : EngineValue D) (seat : DeviceValue StoreAsk StoreTold StoreBasis)
-    → a.served ≡ [] → a.finished ≡ [] → GoesTo bytes held faults appends looks a c → Agrees told_of (Admits c.base) c.served c.finished seat → Fresh bytes held faults appends looks a c (trail told_of c.finished)
+    → a.served ≡ [] → a.finished ≡ [] → GoesTo bytes held faults appends looks a c
+    → Agrees told_of (Admits c.base) c.served c.finished seat
+    → Fresh bytes held faults appends looks a c (trail told_of c.finished)
 fresh bytes held faults appends looks a c seat none not goes agrees =
     let xs = goes.0 in
     let m = served_more bytes held faults appends looks xs a c goes.1 in
@@ -240,7 +262,8 @@ fresh bytes held faults appends looks a c seat none not goes agrees =
     }
 
 pub log_ends : {D : Type 0} (bytes : D → Option (List ℕ)) (held faults : D → ℕ) (appends : D → List ℕ → Bool → D → Type 0) (looks : D → D → Type 0) (a c : EngineValue D) (seat : DeviceValue StoreAsk StoreTold StoreBasis) (old : List ℕ)
-    → a.served ≡ [] → a.finished ≡ [] → bytes a.core.log.disk ≡ Some old → GoesTo bytes held faults appends looks a c → Agrees told_of (Admits c.base) c.served c.finished seat
+    → a.served ≡ [] → a.finished ≡ [] → bytes a.core.log.disk ≡ Some old → GoesTo bytes held faults appends looks a c
+    → Agrees told_of (Admits c.base) c.served c.finished seat
     → (now : List ℕ) × (records : List Record) × (bytes c.core.log.disk ≡ Some now) × LogEnds c.base c.served seat.trail old now records
 log_ends bytes held faults appends looks a c seat old none not h goes agrees =
     let b : StoreBasis = c.base in
@@ -275,7 +298,10 @@ log_ends bytes held faults appends looks a c seat old none not h goes agrees =
     )
 
 pub log_rose : {D : Type 0} (bytes : D → Option (List ℕ)) (held faults : D → ℕ) (appends : D → List ℕ → Bool → D → Type 0) (looks : D → D → Type 0) (a c : EngineValue D) (seat : DeviceValue StoreAsk StoreTold StoreBasis) (p : ℕ)
-    → a.served ≡ [] → a.finished ≡ [] → GoesTo bytes held faults appends looks a c → Agrees told_of (Admits c.base) c.served c.finished seat → (standing_at_end c.base c.served seat.trail).fault ≡ Some p → Rose (faults a.core.log.disk) (faults c.core.log.disk)
+    → a.served ≡ [] → a.finished ≡ [] → GoesTo bytes held faults appends looks a c
+    → Agrees told_of (Admits c.base) c.served c.finished seat
+    → (standing_at_end c.base c.served seat.trail).fault ≡ Some p
+    → Rose (faults a.core.log.disk) (faults c.core.log.disk)
 log_rose bytes held faults appends looks a c seat p none not goes agrees h =
     let t : List (ℕ × StoreTold) = trail told_of c.finished in
     let g = fresh bytes held faults appends looks a c seat none not goes agrees in

@@ -101,7 +101,8 @@ module _ (b : StoreBasis) (end : Trail StoreAsk StoreTold) (history : List Store
   pub serial_all : length t.replies ≡ length t.asks → t.replies ≡ (serial_from 0 b.records b.limit t.asks).replies
   serial_all even = serial_replies ∙ take_all (length t.replies) (serial_from 0 b.records b.limit t.asks).replies (shorter (as_long 0 b.records t.asks))
     where
-      as_long : (i : ℕ) (records : List Record) (qs : List Asked) → length (serial_from i records b.limit qs).replies ≡ length qs
+      as_long : (i : ℕ) (records : List Record) (qs : List Asked)
+          → length (serial_from i records b.limit qs).replies ≡ length qs
       as_long i records [] = refl
       as_long i records (q ∷ qs) = ap suc (as_long (i + 1) (records ++ added records b.limit 0 i q) qs)
 
@@ -114,7 +115,8 @@ module _ (b : StoreBasis) (end : Trail StoreAsk StoreTold) (history : List Store
   left_is : IsLeft (standing_from b.limit (struck_at end.told) 0 (opened b.records) (asked_in (says history))).fault (asked_in (says history)) ends.logged.extra
   left_is = subst (λ (x : Standing). IsLeft x.fault (asked_in (says history)) ends.logged.extra) (end_is b (says history) end.told) ends.logged.left
 
-  pub serial_records : ends.logged.extra ≡ [] → length t.replies ≡ length k.drawn → drop run.old run.records ≡ (serial_from 0 b.records b.limit (take (length t.replies) t.asks)).records
+  pub serial_records : ends.logged.extra ≡ [] → length t.replies ≡ length k.drawn
+      → drop run.old run.records ≡ (serial_from 0 b.records b.limit (take (length t.replies) t.asks)).records
   serial_records none even =
       let asks : List Ask = asked_in (says history) in
       let are_stops = asked.are_stops in
@@ -125,12 +127,15 @@ module _ (b : StoreBasis) (end : Trail StoreAsk StoreTold) (history : List Store
       ap (λ n. drop n run.records) (sym ends.old) ∙ ap (drop (length b.records)) all ∙ drop-append_seam b.records (serial_from 0 b.records b.limit k.drawn).records
       ∙ ap (λ (l : List Asked). (serial_from 0 b.records b.limit l).records) (sym drawn)
 
-  long_enough : (i : ℕ) (qs : List Asked) (rs : List Reply) → RepliesFrom b history end.told only acc.rises stops i qs rs → length rs ≤ length qs
+  long_enough : (i : ℕ) (qs : List Asked) (rs : List Reply)
+      → RepliesFrom b history end.told only acc.rises stops i qs rs → length rs ≤ length qs
   long_enough i qs [] h = omega arith
   long_enough i [] (r ∷ rs) h = absurd h
   long_enough i (q ∷ qs) (r ∷ rs) h = let k = long_enough (i + 1) qs rs h.3 in omega arith
 
-  front_replied : (i : ℕ) (qs : List Asked) (rs : List Reply) → RepliesFrom b history end.told only acc.rises stops i qs rs → RepliesFrom b history end.told only acc.rises stops i (take (length rs) qs) rs
+  front_replied : (i : ℕ) (qs : List Asked) (rs : List Reply)
+      → RepliesFrom b history end.told only acc.rises stops i qs rs
+      → RepliesFrom b history end.told only acc.rises stops i (take (length rs) qs) rs
   front_replied i qs [] h = tt
   front_replied i [] (r ∷ rs) h = absurd h
   front_replied i (q ∷ qs) (r ∷ rs) h = (h.0, h.1, h.2, front_replied (i + 1) qs rs h.3)
@@ -156,7 +161,8 @@ module _ (b : StoreBasis) (end : Trail StoreAsk StoreTold) (history : List Store
   asked_front : take (length t.replies) t.asks ≡ front
   asked_front = ap (take (length t.replies)) talk.1.1 ∙ take-append-le (length t.replies) k.drawn talk.1.0 (long_enough 0 k.drawn t.replies from)
 
-  asked_more : (q : Asked) → drop (length t.replies) k.drawn ≡ q ∷ [] → take (length t.replies + 1) t.asks ≡ front ++ q ∷ []
+  asked_more : (q : Asked) → drop (length t.replies) k.drawn ≡ q ∷ []
+      → take (length t.replies + 1) t.asks ≡ front ++ q ∷ []
   asked_more q e =
       let whole : t.asks ≡ (front ++ q ∷ []) ++ talk.1.0 = talk.1.1 ∙ ap (λ (l : List Asked). l ++ talk.1.0) (sym (take-append-drop (length t.replies) k.drawn) ∙ ap (λ (l : List Asked). front ++ l) e) in
       let long : length t.replies + 1 ≡ length (front ++ q ∷ []) = sym (length-append front (q ∷ []) ∙ ap (λ n. n + 1) in_front) in
@@ -178,7 +184,8 @@ module _ (b : StoreBasis) (end : Trail StoreAsk StoreTold) (history : List Store
       never : {p : ℕ} → None ≡ Some p → ⊥
       never e = absurd (cc)
 
-  taken_long : (xs : List Ask) (p : ℕ) (x : Ask) (ys : List Ask) → drop p xs ≡ x ∷ ys → (length (take p xs) ≡ p) × (slice_get xs p ≡ Some x)
+  taken_long : (xs : List Ask) (p : ℕ) (x : Ask) (ys : List Ask) → drop p xs ≡ x ∷ ys
+      → (length (take p xs) ≡ p) × (slice_get xs p ≡ Some x)
   taken_long xs zero x ys e = (refl, ap (λ (l : List Ask). slice_get l 0) e)
   taken_long [] (suc p) x ys e = absurd (cc)
   taken_long (z ∷ xs) (suc p) x ys e = let k = taken_long xs p x ys e in (ap suc k.0, k.1)
@@ -193,14 +200,18 @@ module _ (b : StoreBasis) (end : Trail StoreAsk StoreTold) (history : List Store
   last_is p = ap (standing_from b.limit struck 0 (opened b.records)) (sym (take-append-drop p of_all)) ∙ history_join b.limit struck 0 (opened b.records) (take p of_all) (drop p of_all)
 
   -- no further ask
-  ends_calm : (p : ℕ) → (here_at p).records ≡ b.records ++ (serial_from 0 b.records b.limit front).records → (here_at p).fault ≡ None → drop p of_all ≡ wants stops → Same
+  ends_calm : (p : ℕ) → (here_at p).records ≡ b.records ++ (serial_from 0 b.records b.limit front).records
+      → (here_at p).fault ≡ None → drop p of_all ≡ wants stops → Same
   ends_calm p records calm rest =
       let final : last ≡ standing_from b.limit struck (0 + length (take p of_all)) (here_at p) (wants stops) = last_is p ∙ ap (standing_from b.limit struck (0 + length (take p of_all)) (here_at p)) rest in
       let none = no_extra (ap (λ (x : Standing). x.fault) final ∙ stops_calm b.limit struck (0 + length (take p of_all)) (here_at p) stops are_stops ∙ calm) ends.logged.extra left_is in
       same_by (all_are ∙ ap (λ (l : List Record). last.records ++ l) none ∙ append-nil last.records ∙ ap (λ (x : Standing). x.records) final ∙ stops_keep b.limit struck (0 + length (take p of_all)) (here_at p) stops are_stops ∙ records)
 
   -- one further ask
-  ends_asked : (p : ℕ) (q : Asked) (ask : Ask) → drop (length t.replies) k.drawn ≡ q ∷ [] → ask_of 0 (0 + length front) q ≡ Some ask → (here_at p).records ≡ b.records ++ (serial_from 0 b.records b.limit front).records → (here_at p).fault ≡ None → drop p of_all ≡ ask ∷ wants stops → Same ⊎ More
+  ends_asked : (p : ℕ) (q : Asked) (ask : Ask) → drop (length t.replies) k.drawn ≡ q ∷ []
+      → ask_of 0 (0 + length front) q ≡ Some ask
+      → (here_at p).records ≡ b.records ++ (serial_from 0 b.records b.limit front).records → (here_at p).fault ≡ None
+      → drop p of_all ≡ ask ∷ wants stops → Same ⊎ More
   ends_asked p q ask tail is records calm rest = go (leaves b.limit p (0 + length front) q ask s (struck p) is calm)
     where
       s : Standing
@@ -236,7 +247,8 @@ module _ (b : StoreBasis) (end : Trail StoreAsk StoreTold) (history : List Store
           ∙ sym (serial_push 0 b.limit b.records front q)
           ∙ ap (λ (l : List Asked). (serial_from 0 b.records b.limit l).records) (sym (asked_more q tail))
 
-      left : (extra : List Record) → run.records ≡ last.records ++ extra → IsLeft last.fault of_all extra → next.records ≡ s.records → next.fault ≡ Some p
+      left : (extra : List Record) → run.records ≡ last.records ++ extra → IsLeft last.fault of_all extra
+          → next.records ≡ s.records → next.fault ≡ Some p
           → ((r : Record) → ask_of 0 (0 + length front) q ≡ Some (Puts r) → new ≡ r ∷ []) → Same ⊎ More
       left extra all (inl none) same fault adds = inl (same_by (all ∙ ap (λ (l : List Record). last.records ++ l) none ∙ append-nil last.records ∙ final_records ∙ same ∙ records))
       left extra all (inr one) same fault adds =
@@ -264,12 +276,16 @@ module _ (b : StoreBasis) (end : Trail StoreAsk StoreTold) (history : List Store
           let c = length-append (take (length t.replies) k.drawn) (drop (length t.replies) k.drawn) in
           let d = in_front in omega (arith, a, c, d, few)
 
-      go : (tail : List Asked) → drop (length t.replies) k.drawn ≡ tail → length tail ≤ 1 → (p : ℕ) → (here_at p).records ≡ b.records ++ (serial_from 0 b.records b.limit front).records → (here_at p).fault ≡ None
-          → drop p of_all ≡ wants (asked_with (0 + length front + 1) (numbered 0 (0 + length front) tail) ++ stops) → Same ⊎ More
+      go : (tail : List Asked) → drop (length t.replies) k.drawn ≡ tail → length tail ≤ 1 → (p : ℕ)
+          → (here_at p).records ≡ b.records ++ (serial_from 0 b.records b.limit front).records
+          → (here_at p).fault ≡ None
+          → drop p of_all ≡ wants (asked_with (0 + length front + 1) (numbered 0 (0 + length front) tail) ++ stops)
+          → Same ⊎ More
       go [] e short p records calm rest = inl (ends_calm p records calm rest)
       go (q ∷ []) e short p records calm rest = by (ask_of 0 (0 + length front) q) refl rest
         where
-          by : (o : Option Ask) → ask_of 0 (0 + length front) q ≡ o → drop p of_all ≡ wants (with_ask (0 + length front + 1) o [] ++ stops) → Same ⊎ More
+          by : (o : Option Ask) → ask_of 0 (0 + length front) q ≡ o
+              → drop p of_all ≡ wants (with_ask (0 + length front + 1) o [] ++ stops) → Same ⊎ More
           by None none rest = inl (ends_calm p records calm rest)
           by (Some ask) some rest = ends_asked p q ask e some records calm rest
       go (q ∷ x ∷ tail) e short p records calm rest = absurd (omega arith)

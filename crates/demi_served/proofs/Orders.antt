@@ -22,13 +22,15 @@ use Rattle.demi_served.proofs.Places.{IsStep, told_step, below, below_next}
 use Rattle.demi_served.proofs.Comes.{step_fault}
 use Rattle.demi_served.proofs.Serves.{says_at, asked_at, is_request, placing}
 
-pub plain_step : (index limit : ℕ) (q : Asked) (records : List Record) → ask_of 0 index q ≡ None → (plain_answer q ≡ answer records limit q) × (added records limit 0 index q ≡ [])
+pub plain_step : (index limit : ℕ) (q : Asked) (records : List Record) → ask_of 0 index q ≡ None
+    → (plain_answer q ≡ answer records limit q) × (added records limit 0 index q ≡ [])
 plain_step index limit (Request_of (Put key value)) records e = absurd (cc)
 plain_step index limit (Request_of (Get key)) records e = absurd (cc)
 plain_step index limit (Request_of End) records e = (refl, refl)
 plain_step index limit (Refused_end code) records e = (refl, refl)
 
-told_calm : (limit place : ℕ) (s : Standing) (ask : Ask) (k : Option StoreTold) (a : Answer) → s.fault ≡ None → (said_at limit place s ask k).0 ≡ Told a → (said_at limit place s ask k).1.fault ≡ None
+told_calm : (limit place : ℕ) (s : Standing) (ask : Ask) (k : Option StoreTold) (a : Answer) → s.fault ≡ None
+    → (said_at limit place s ask k).0 ≡ Told a → (said_at limit place s ask k).1.fault ≡ None
 told_calm limit place s ask k a none told = elim (step_fault limit place s ask k none) [
   | inl still ↦ still
   | inr now ↦ absurd (never (sym told ∙ now.2))
@@ -45,7 +47,8 @@ pub wants_are : (history : List StoreAsk) → wants (asked_by history) ≡ asked
 wants_are [] = refl
 wants_are (s ∷ history) = ap (λ (l : List Ask). asks_for s.op ∷ l) (wants_are history)
 
-entry_of : (history : List StoreEntry) (p : ℕ) (x : Numbered) → slice_get (asked_by (says history)) p ≡ Some x → (e : StoreEntry) × (slice_get history p ≡ Some e) × (numbered_ask e.1.1 ≡ x)
+entry_of : (history : List StoreEntry) (p : ℕ) (x : Numbered) → slice_get (asked_by (says history)) p ≡ Some x
+    → (e : StoreEntry) × (slice_get history p ≡ Some e) × (numbered_ask e.1.1 ≡ x)
 entry_of [] p x e = absurd (cc)
 entry_of (y ∷ history) zero x e = (y, refl, some_is e)
 entry_of (y ∷ history) (suc p) x e = entry_of history p x e
@@ -66,7 +69,8 @@ module _ (b : StoreBasis) (history : List StoreEntry) (trail : List (ℕ × Stor
   RepliesFrom i (q ∷ qs) (r ∷ rs) = (r.worker ≡ 0) × (r.sequence ≡ i + 1) × IsAccounted b history trail q r (ask_of 0 i q) × RepliesFrom (i + 1) qs rs
 
   -- one number is that of one place
-  one_place : (p q : ℕ) (x y : StoreEntry) → slice_get history p ≡ Some x → slice_get history q ≡ Some y → IsNoStop (asks_at x) → IsNoStop (asks_at y) → x.1.1.sequence ≡ y.1.1.sequence → p ≡ q
+  one_place : (p q : ℕ) (x y : StoreEntry) → slice_get history p ≡ Some x → slice_get history q ≡ Some y
+      → IsNoStop (asks_at x) → IsNoStop (asks_at y) → x.1.1.sequence ≡ y.1.1.sequence → p ≡ q
   one_place p q x y e f a c same =
       let workers : x.0 ≡ y.0 = alone p x e ∙ sym (alone q y f) in
       elim (cases_lt p q) [
@@ -78,7 +82,9 @@ module _ (b : StoreBasis) (history : List StoreEntry) (trail : List (ℕ × Stor
       ]
 
   -- the ask of this number stands at the place, and the reply to it was said there
-  asked_there : (i p : ℕ) (q : Asked) (r : Reply) (ask : Ask) → ask_of 0 i q ≡ Some ask → slice_get (asked_by (says history)) p ≡ Some (record { sequence = i + 1; ask = ask }) → r.sequence ≡ i + 1 → IsAccounted b history trail q r (Some ask)
+  asked_there : (i p : ℕ) (q : Asked) (r : Reply) (ask : Ask) → ask_of 0 i q ≡ Some ask
+      → slice_get (asked_by (says history)) p ≡ Some (record { sequence = i + 1; ask = ask }) → r.sequence ≡ i + 1
+      → IsAccounted b history trail q r (Some ask)
       → (slice_get (asked_in (says history)) p ≡ Some ask) × ((said_at b.limit p (before p) ask (struck_at trail p)).0 ≡ Told r.answer)
   asked_there i p q r ask is here number h =
       let x = entry_of history p (record { sequence = i + 1; ask = ask }) here in
@@ -90,31 +96,41 @@ module _ (b : StoreBasis) (history : List StoreEntry) (trail : List (ℕ × Stor
         ap (λ m. storeresult b.limit b.records (struck_at trail) (asked_in (says history)) m ask) (sym place) ∙ y.said,
       )
 
-  pub asked_step : (i p : ℕ) (q : Asked) (r : Reply) (ask : Ask) → ask_of 0 i q ≡ Some ask → slice_get (asked_by (says history)) p ≡ Some (record { sequence = i + 1; ask = ask }) → r.sequence ≡ i + 1 → IsAccounted b history trail q r (Some ask)
+  pub asked_step : (i p : ℕ) (q : Asked) (r : Reply) (ask : Ask) → ask_of 0 i q ≡ Some ask
+      → slice_get (asked_by (says history)) p ≡ Some (record { sequence = i + 1; ask = ask }) → r.sequence ≡ i + 1
+      → IsAccounted b history trail q r (Some ask)
       → IsStep (before p) b.limit 0 i q r.answer (before (p + 1))
   asked_step i p q r ask is here number h =
       let t = asked_there i p q r ask is here number h in
       subst (IsStep (before p) b.limit 0 i q r.answer) (sym (below_next b.limit (struck_at trail) b.records (asked_in (says history)) p ask t.0)) (told_step b.limit p 0 i (before p) q ask (struck_at trail p) r.answer is t.1)
 
-  pub step_calm : (i p : ℕ) (q : Asked) (r : Reply) (ask : Ask) → ask_of 0 i q ≡ Some ask → slice_get (asked_by (says history)) p ≡ Some (record { sequence = i + 1; ask = ask }) → r.sequence ≡ i + 1 → IsAccounted b history trail q r (Some ask)
+  pub step_calm : (i p : ℕ) (q : Asked) (r : Reply) (ask : Ask) → ask_of 0 i q ≡ Some ask
+      → slice_get (asked_by (says history)) p ≡ Some (record { sequence = i + 1; ask = ask }) → r.sequence ≡ i + 1
+      → IsAccounted b history trail q r (Some ask)
       → (before p).fault ≡ None → (before (p + 1)).fault ≡ None
   step_calm i p q r ask is here number h calm =
       let t = asked_there i p q r ask is here number h in
       ap (λ (z : Standing). z.fault) (below_next b.limit (struck_at trail) b.records (asked_in (says history)) p ask t.0) ∙ told_calm b.limit p (before p) ask (struck_at trail p) r.answer calm t.1
 
-  reply_is : (i : ℕ) (r : Reply) (a : Answer) → r.worker ≡ 0 → r.sequence ≡ i + 1 → r.answer ≡ a → r ≡ record { worker = 0; sequence = i + 1; answer = a }
+  reply_is : (i : ℕ) (r : Reply) (a : Answer) → r.worker ≡ 0 → r.sequence ≡ i + 1 → r.answer ≡ a
+      → r ≡ record { worker = 0; sequence = i + 1; answer = a }
   reply_is i r a w s e = λ j. record { worker = w j; sequence = s j; answer = e j }
 
-  pub in_order : (i p : ℕ) (qs beyond : List Asked) (rs : List Reply) → SaidFrom p (asked_with (i + 1) (numbered 0 i qs) ++ stops) → RepliesFrom i qs rs → rs ≡ take (length rs) (serial_from i (before p).records b.limit (qs ++ beyond)).replies
+  pub in_order : (i p : ℕ) (qs beyond : List Asked) (rs : List Reply)
+      → SaidFrom p (asked_with (i + 1) (numbered 0 i qs) ++ stops) → RepliesFrom i qs rs
+      → rs ≡ take (length rs) (serial_from i (before p).records b.limit (qs ++ beyond)).replies
   in_order i p qs beyond [] said h = refl
   in_order i p [] beyond (r ∷ rs) said h = absurd h
   in_order i p (q ∷ qs) beyond (r ∷ rs) said h = go (ask_of 0 i q) refl said h.2 (λ m s. in_order (i + 1) m qs beyond rs s h.3)
     where
-      first : (a : Answer) → r.answer ≡ a → (records more : List Record) → more ≡ records → rs ≡ take (length rs) (serial_from (i + 1) more b.limit (qs ++ beyond)).replies
+      first : (a : Answer) → r.answer ≡ a → (records more : List Record) → more ≡ records
+          → rs ≡ take (length rs) (serial_from (i + 1) more b.limit (qs ++ beyond)).replies
           → r ∷ rs ≡ record { worker = 0; sequence = i + 1; answer = a } ∷ take (length rs) (serial_from (i + 1) records b.limit (qs ++ beyond)).replies
       first a e records more same rest = λ j. reply_is i r a h.0 h.1 e j ∷ (rest ∙ ap (λ (l : List Record). take (length rs) (serial_from (i + 1) l b.limit (qs ++ beyond)).replies) same) j
 
-      go : (o : Option Ask) → ask_of 0 i q ≡ o → SaidFrom p (with_ask (i + 1) o (asked_with (i + 1 + 1) (numbered 0 (i + 1) qs)) ++ stops) → IsAccounted b history trail q r o
+      go : (o : Option Ask) → ask_of 0 i q ≡ o
+          → SaidFrom p (with_ask (i + 1) o (asked_with (i + 1 + 1) (numbered 0 (i + 1) qs)) ++ stops)
+          → IsAccounted b history trail q r o
           → ((m : ℕ) → SaidFrom m (asked_with (i + 1 + 1) (numbered 0 (i + 1) qs) ++ stops) → rs ≡ take (length rs) (serial_from (i + 1) (before m).records b.limit (qs ++ beyond)).replies)
           → r ∷ rs ≡ take (length (r ∷ rs)) (serial_from i (before p).records b.limit (q ∷ qs ++ beyond)).replies
       go None none said acc again =
@@ -127,7 +143,8 @@ module _ (b : StoreBasis) (history : List StoreEntry) (trail : List (ℕ × Stor
           first (answer (before p).records b.limit q) step.0 ((before p).records ++ added (before p).records b.limit 0 i q) (before (p + 1)).records step.1
           (again (p + 1) (λ j x e. (let n : p + 1 + j ≡ p + suc j = omega arith in ap (slice_get (asked_by (says history))) n ∙ said (suc j) x e)))
 
-  pub replies_from : (i : ℕ) (qs : List Asked) (rs : List Reply) → ((j : ℕ) (r : Reply) → slice_get rs j ≡ Some r → (q : Asked) × (slice_get qs j ≡ Some q) × (r.worker ≡ 0) × (r.sequence ≡ i + j + 1) × IsAccounted b history trail q r (ask_of 0 (i + j) q)) → RepliesFrom i qs rs
+  pub replies_from : (i : ℕ) (qs : List Asked) (rs : List Reply)
+      → ((j : ℕ) (r : Reply) → slice_get rs j ≡ Some r → (q : Asked) × (slice_get qs j ≡ Some q) × (r.worker ≡ 0) × (r.sequence ≡ i + j + 1) × IsAccounted b history trail q r (ask_of 0 (i + j) q)) → RepliesFrom i qs rs
   replies_from i qs [] h = tt
   replies_from i [] (r ∷ rs) h = let k = h 0 r refl in absurd (let e = k.1 in cc)
   replies_from i (q ∷ qs) (r ∷ rs) h =

@@ -35,7 +35,8 @@ HasValue (op.Put link index key x) value = value ≡ value_bytes x
 HasValue (op.Get key room) value = ⊥
 HasValue op.Stop value = ⊥
 
-stored_value : (limit place : ℕ) (s : Standing) (k : Option StoreTold) (o : StoreOp) (v : ℕ) (value : List ℕ) → (said_at limit place s (asks_for o) k).0 ≡ Told (Stored v value) → HasValue o value
+stored_value : (limit place : ℕ) (s : Standing) (k : Option StoreTold) (o : StoreOp) (v : ℕ) (value : List ℕ)
+    → (said_at limit place s (asks_for o) k).0 ≡ Told (Stored v value) → HasValue o value
 stored_value limit place s k (op.Put link index key x) v value h = value_is (put_version limit place (record_of_put link index key x) s k v value h)
   where
     value_is : {v w : ℕ} {a b : List ℕ} → Stored v a ≡ Stored w b → a ≡ b
@@ -51,7 +52,9 @@ stored_value limit place s k op.Stop v value h = go s.stop h
     go None h = absurd (cc)
     go (Some at) h = absurd (cc)
 
-stored_back : (o : StoreOp) (back : Back) (v : ℕ) (value : List ℕ) (a : Answer) → HasValue o value → BackIs true (Told (Stored v value)) o back → answer_with (said.Stored v) back ≡ Some a → Told (Stored v value) ≡ Told a
+stored_back : (o : StoreOp) (back : Back) (v : ℕ) (value : List ℕ) (a : Answer) → HasValue o value
+    → BackIs true (Told (Stored v value)) o back → answer_with (said.Stored v) back ≡ Some a
+    → Told (Stored v value) ≡ Told a
 stored_back (op.Put link index key None) Nothing v value a has b e = ap (λ (l : List ℕ). Told (Stored v l)) has ∙ ap Told (some_is e)
   where
     some_is : {x y : Answer} → Some x ≡ Some y → x ≡ y
@@ -67,7 +70,9 @@ stored_back (op.Put link index key (Some sga)) (Room back) v value a has b e = a
 stored_back (op.Get key room) back v value a has b e = absurd has
 stored_back op.Stop back v value a has b e = absurd has
 
-found_back : (o : StoreOp) (back : Back) (v : ℕ) (value : List ℕ) (a : Answer) → BackIs true (Told (Found v value)) o back → answer_with (said.Found v) back ≡ Some a → Told (Found v value) ≡ Told a
+found_back : (o : StoreOp) (back : Back) (v : ℕ) (value : List ℕ) (a : Answer)
+    → BackIs true (Told (Found v value)) o back → answer_with (said.Found v) back ≡ Some a
+    → Told (Found v value) ≡ Told a
 found_back o Nothing v value a b e = absurd (cc)
 found_back o (Value back) v value a b e = absurd (cc)
 found_back (op.Put link index key None) (Room back) v value a b e = absurd b
@@ -82,7 +87,9 @@ some_told : {x a : Answer} → Some x ≡ Some a → Told x ≡ Told a
 some_told e = cc
 
 -- what is said, by what is answered and what comes back
-told_back : (s : Said) (o : StoreOp) (answer : StoreAnswer) (back : Back) (a : Answer) → ((v : ℕ) (value : List ℕ) → s ≡ Told (Stored v value) → HasValue o value) → AnswerIs s answer → BackIs true s o back → answer_with answer back ≡ Some a → s ≡ Told a
+told_back : (s : Said) (o : StoreOp) (answer : StoreAnswer) (back : Back) (a : Answer)
+    → ((v : ℕ) (value : List ℕ) → s ≡ Told (Stored v value) → HasValue o value) → AnswerIs s answer
+    → BackIs true s o back → answer_with answer back ≡ Some a → s ≡ Told a
 told_back (Told (Stored v value)) o answer back a has is b e = stored_back o back v value a (has v value refl) b (ap (λ (x : StoreAnswer). answer_with x back) (sym is) ∙ e)
 told_back (Told (Found v value)) o answer back a has is b e = found_back o back v value a b (ap (λ (x : StoreAnswer). answer_with x back) (sym is) ∙ e)
 told_back (Told (Missing v)) o answer back a has is b e = some_told (ap (λ (x : StoreAnswer). answer_with x back) (sym is) ∙ e)

@@ -10,7 +10,8 @@ spelled_join [] c = refl
 spelled_join (r ∷ a) c = ap (λ (l : List ℕ). spelling r ++ l) (spelled_join a c) ∙ sym (append_assoc (spelling r) (flat_map spelling a) (flat_map spelling c))
 
 -- what was written begins the replies
-within : (written : List ℕ) (replies : List Reply) → Torn written replies → StartsWith (flat_map spelling replies) written
+within : (written : List ℕ) (replies : List Reply) → Torn written replies
+    → StartsWith (flat_map spelling replies) written
 within written replies (inl e) = ([], sym e ∙ sym (append-nil written))
 within written replies (inr (before, last, k, all, less, is)) = (
   drop k (spelling last),
@@ -18,7 +19,8 @@ within written replies (inr (before, last, k, all, less, is)) = (
       ∙ sym (append_assoc (flat_map spelling before) (take k (spelling last)) (drop k (spelling last))) ∙ ap (λ (l : List ℕ). l ++ drop k (spelling last)) (sym is),
 )
 
-pub output : (written : List ℕ) (replies full : List Reply) → Torn written replies → replies ≡ take (length replies) full → StartsWith (flat_map spelling full) written
+pub output : (written : List ℕ) (replies full : List Reply) → Torn written replies
+    → replies ≡ take (length replies) full → StartsWith (flat_map spelling full) written
 output written replies full torn front =
     let w = within written replies torn in
     let more : List Reply = drop (length replies) full in

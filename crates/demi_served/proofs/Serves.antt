@@ -24,17 +24,20 @@ use Rattle.demi_served.proofs.Places.{Telling, answers_by_place, versions_by_pla
 use Rattle.demi_served.proofs.Comes.{FromPuts, records_come}
 
 -- what stands at a place, of entries, of what they say and of what is asked
-pub says_at : (history : List StoreEntry) (p : ℕ) (x : StoreEntry) → slice_get history p ≡ Some x → slice_get (says history) p ≡ Some x.1.1
+pub says_at : (history : List StoreEntry) (p : ℕ) (x : StoreEntry) → slice_get history p ≡ Some x
+    → slice_get (says history) p ≡ Some x.1.1
 says_at [] p x e = absurd (cc)
 says_at (y ∷ history) zero x e = ap (λ (z : StoreEntry). Some z.1.1) (some_is e)
 says_at (y ∷ history) (suc p) x e = says_at history p x e
 
-pub asked_at : (history : List StoreAsk) (p : ℕ) (x : StoreAsk) → slice_get history p ≡ Some x → slice_get (asked_in history) p ≡ Some (asks_for x.op)
+pub asked_at : (history : List StoreAsk) (p : ℕ) (x : StoreAsk) → slice_get history p ≡ Some x
+    → slice_get (asked_in history) p ≡ Some (asks_for x.op)
 asked_at [] p x e = absurd (cc)
 asked_at (y ∷ history) zero x e = ap (λ (z : StoreAsk). Some (asks_for z.op)) (some_is e)
 asked_at (y ∷ history) (suc p) x e = asked_at history p x e
 
-pub entry_at : (history : List StoreEntry) (p : ℕ) (a : Ask) → slice_get (asked_in (says history)) p ≡ Some a → (x : StoreEntry) × (slice_get history p ≡ Some x) × (asks_at x ≡ a)
+pub entry_at : (history : List StoreEntry) (p : ℕ) (a : Ask) → slice_get (asked_in (says history)) p ≡ Some a
+    → (x : StoreEntry) × (slice_get history p ≡ Some x) × (asks_at x ≡ a)
 entry_at [] p a e = absurd (cc)
 entry_at (y ∷ history) zero a e = (y, refl, some_is e)
 entry_at (y ∷ history) (suc p) a e = entry_at history p a e
@@ -75,7 +78,8 @@ module _ (b : StoreBasis) (history : List StoreEntry) (trail : List (ℕ × Stor
         said = ap (storeresult b.limit b.records (struck_at trail) asks p) (sym h.asks ∙ ap (λ (s : StoreAsk). asks_for s.op) (sym same)) ∙ sym (result_is b (says history) trail p h.said.asked) ∙ h.said.result;
       }
 
-  pub telling : (link index : ℕ) (q : Asked) (r : Reply) (ask : Ask) → ask_of link index q ≡ Some ask → (p : Placing r ask) → Telling b.limit (struck_at trail) b.records asks p.place link index q r.answer
+  pub telling : (link index : ℕ) (q : Asked) (r : Reply) (ask : Ask) → ask_of link index q ≡ Some ask
+      → (p : Placing r ask) → Telling b.limit (struck_at trail) b.records asks p.place link index q r.answer
   telling link index q r ask e p = record { ask = ask; of = e; asked = p.asked; said = p.said }
 
   module _ (run : Run) (talks : List Talk) (acc : Accounted b history trail run talks) where
@@ -83,22 +87,26 @@ module _ (b : StoreBasis) (history : List StoreEntry) (trail : List (ℕ × Stor
     all_records = acc.logged.all ∙ ap (λ (s : Standing). s.records ++ acc.logged.extra) (end_is b (says history) trail)
 
     -- each reply answers its request
-    plain_answers : (link index : ℕ) (q : Asked) (r : Reply) → ask_of link index q ≡ None → r.answer ≡ plain_answer q → Answers run link index q r.answer
+    plain_answers : (link index : ℕ) (q : Asked) (r : Reply) → ask_of link index q ≡ None → r.answer ≡ plain_answer q
+        → Answers run link index q r.answer
     plain_answers link index (Request_of (Put key value)) r e h = absurd (cc)
     plain_answers link index (Request_of (Get key)) r e h = absurd (cc)
     plain_answers link index (Request_of End) r e h = subst (Answers run link index (Request_of End)) (sym h) (record { said = refl; names = tt; stores = λ t. tt })
     plain_answers link index (Refused_end code) r e h = subst (Answers run link index (Refused_end code)) (sym h) (record { said = refl; names = tt; stores = λ t. tt })
 
-    answered : (link index : ℕ) (q : Asked) (r : Reply) → IsAccounted b history trail q r (ask_of link index q) → Answers run link index q r.answer
+    answered : (link index : ℕ) (q : Asked) (r : Reply) → IsAccounted b history trail q r (ask_of link index q)
+        → Answers run link index q r.answer
     answered link index q r h = go (ask_of link index q) refl h
       where
-        go : (o : Option Ask) → ask_of link index q ≡ o → IsAccounted b history trail q r o → Answers run link index q r.answer
+        go : (o : Option Ask) → ask_of link index q ≡ o → IsAccounted b history trail q r o
+            → Answers run link index q r.answer
         go None e h = plain_answers link index q r e h
         go (Some ask) e h =
             let p = placing r ask h.0 h.1 in
             answers_by_place b.limit (struck_at trail) b.records asks run acc.logged.extra p.place link index q r.answer acc.old acc.limit all_records (telling link index q r ask e p)
 
-    answers_by : (link base : ℕ) (qs : List Asked) (rs : List Reply) → ((i : ℕ) (r : Reply) → slice_get rs i ≡ Some r → (q : Asked) × (slice_get qs i ≡ Some q) × Answers run link (base + i) q r.answer) → AnswersEach run link base qs rs
+    answers_by : (link base : ℕ) (qs : List Asked) (rs : List Reply)
+        → ((i : ℕ) (r : Reply) → slice_get rs i ≡ Some r → (q : Asked) × (slice_get qs i ≡ Some q) × Answers run link (base + i) q r.answer) → AnswersEach run link base qs rs
     answers_by link base qs [] h = tt
     answers_by link base [] (r ∷ rs) h = let k = h 0 r refl in absurd (let e = k.1 in cc)
     answers_by link base (q ∷ qs) (r ∷ rs) h =
@@ -126,7 +134,8 @@ module _ (b : StoreBasis) (history : List StoreEntry) (trail : List (ℕ × Stor
         nothing None = tt
         nothing (Some v) = tt
 
-    in_order : (l i m j : ℕ) (q x : Asked) (r s : Reply) (a c : Ask) → ask_of l i q ≡ Some a → ask_of m j x ≡ Some c → Placing r a → Placing s c → r.worker ≡ s.worker → r.sequence < s.sequence → Rises r s
+    in_order : (l i m j : ℕ) (q x : Asked) (r s : Reply) (a c : Ask) → ask_of l i q ≡ Some a → ask_of m j x ≡ Some c
+        → Placing r a → Placing s c → r.worker ≡ s.worker → r.sequence < s.sequence → Rises r s
     in_order l i m j q x r s a c of_a of_c p o same less = elim (cases_lt p.place o.place) [
       | inl before ↦ versions_by_place b.limit (struck_at trail) b.records asks p.place o.place l i m j q x r.answer s.answer before (telling l i q r a of_a p) (telling m j x s c of_c o)
       | inr not_before ↦ elim (cases_lt o.place p.place) [
@@ -142,34 +151,41 @@ module _ (b : StoreBasis) (history : List StoreEntry) (trail : List (ℕ × Stor
       ]
     ]
 
-    rises : (l i m j : ℕ) (q x : Asked) (r s : Reply) → IsAccounted b history trail q r (ask_of l i q) → IsAccounted b history trail x s (ask_of m j x) → r.worker ≡ s.worker → r.sequence < s.sequence → Rises r s
+    rises : (l i m j : ℕ) (q x : Asked) (r s : Reply) → IsAccounted b history trail q r (ask_of l i q)
+        → IsAccounted b history trail x s (ask_of m j x) → r.worker ≡ s.worker → r.sequence < s.sequence → Rises r s
     rises l i m j q x r s h k same less = go (ask_of l i q) (ask_of m j x) refl refl h k
       where
-        go : (a c : Option Ask) → ask_of l i q ≡ a → ask_of m j x ≡ c → IsAccounted b history trail q r a → IsAccounted b history trail x s c → Rises r s
+        go : (a c : Option Ask) → ask_of l i q ≡ a → ask_of m j x ≡ c → IsAccounted b history trail q r a
+            → IsAccounted b history trail x s c → Rises r s
         go None c ea ec h k = first_none r s (no_version q r.answer h)
         go (Some a) None ea ec h k = second_none r s (no_version x s.answer k)
         go (Some a) (Some c) ea ec h k = in_order l i m j q x r s a c ea ec (placing r a h.0 h.1) (placing s c k.0 k.1) same less
 
-    weaker : (strict : Bool) (o p : Option ℕ) → IfSome o (λ v. IfSome p (λ w. (v ≤ w) × (IsTrue strict → v < w))) → IfSome o (λ v. IfSome p (λ w. v ≤ w))
+    weaker : (strict : Bool) (o p : Option ℕ) → IfSome o (λ v. IfSome p (λ w. (v ≤ w) × (IsTrue strict → v < w)))
+        → IfSome o (λ v. IfSome p (λ w. v ≤ w))
     weaker strict None p h = tt
     weaker strict (Some v) None h = tt
     weaker strict (Some v) (Some w) h = h.0
 
-    turned : (strict : Bool) (o p : Option ℕ) → IfSome o (λ v. IfSome p (λ w. (v ≤ w) × (IsTrue strict → v < w))) → IfSome p (λ w. IfSome o (λ v. v ≤ w))
+    turned : (strict : Bool) (o p : Option ℕ) → IfSome o (λ v. IfSome p (λ w. (v ≤ w) × (IsTrue strict → v < w)))
+        → IfSome p (λ w. IfSome o (λ v. v ≤ w))
     turned strict None None h = tt
     turned strict None (Some w) h = tt
     turned strict (Some v) None h = tt
     turned strict (Some v) (Some w) h = h.0
 
     -- replies of two links, or two of one link
-    two : (l i m j : ℕ) (q x : Asked) (r s : Reply) → IsAccounted b history trail q r (ask_of l i q) → IsAccounted b history trail x s (ask_of m j x) → (r.worker ≡ s.worker → r.sequence ≢ s.sequence) → InStep r s
+    two : (l i m j : ℕ) (q x : Asked) (r s : Reply) → IsAccounted b history trail q r (ask_of l i q)
+        → IsAccounted b history trail x s (ask_of m j x) → (r.worker ≡ s.worker → r.sequence ≢ s.sequence)
+        → InStep r s
     two l i m j q x r s h k differ = record {
       differ = differ;
       rises = λ same less. weaker (is_stored s.answer) (version_of r.answer) (version_of s.answer) (rises l i m j q x r s h k same less);
       falls = λ same less. turned (is_stored r.answer) (version_of s.answer) (version_of r.answer) (rises m j l i x q s r k h (sym same) less);
     }
 
-    next : (link i j : ℕ) (t : Talk) (r s : Reply) → i < j → slice_get talks link ≡ Some t → slice_get t.replies i ≡ Some r → slice_get t.replies j ≡ Some s → IsNext r s
+    next : (link i j : ℕ) (t : Talk) (r s : Reply) → i < j → slice_get talks link ≡ Some t
+        → slice_get t.replies i ≡ Some r → slice_get t.replies j ≡ Some s → IsNext r s
     next link i j t r s less e d f = pairwise_at IsNext t.replies i j r s (all_at (λ t. Pairwise IsNext t.replies) talks link t acc.along e) less d f
 
     pub consistent : Consistent run talks
@@ -207,7 +223,8 @@ module _ (b : StoreBasis) (history : List StoreEntry) (trail : List (ℕ × Stor
     all_asked n m [] h = tt
     all_asked n m (r ∷ records) h = (put_asked h.0 r h.2, all_asked (h.0 + 1) m records h.3)
 
-    all_apart : (p n m : ℕ) (r : Record) (records : List Record) → slice_get asks p ≡ Some (Puts r) → p < n → FromPuts asks n records m → AllByRecursion (OfTwoRequests r) records
+    all_apart : (p n m : ℕ) (r : Record) (records : List Record) → slice_get asks p ≡ Some (Puts r) → p < n
+        → FromPuts asks n records m → AllByRecursion (OfTwoRequests r) records
     all_apart p n m r [] e less h = tt
     all_apart p n m r (s ∷ records) e less h =
         (apart, all_apart p (h.0 + 1) m r records e (let le = h.1 in omega arith) h.3)

@@ -40,5 +40,6 @@ accounted_served b history trail ports workers memory run talks s = record {
 }
 
 pub all_accounted : (b : StoreBasis) (end : Trail StoreAsk StoreTold) (history : List StoreEntry) (workers : List Worker) (links : List Link) (ports : List LinkPorts) (memory : List MemEntry) (run : Run) (talks : List Talk) → StoreEnds b end history workers links run talks
-    → AllEnded run.links ports talks → Shared (length run.links) (length workers) memory → SessionAccounted b history end.told ports (length workers) memory run talks
+    → AllEnded run.links ports talks → Shared (length run.links) (length workers) memory
+    → SessionAccounted b history end.told ports (length workers) memory run talks
 all_accounted b end history workers links ports memory run talks ends ended shared = record { store = accounted b end history workers links run talks ends; links = ended; sharing = shared }

@@ -13,10 +13,13 @@ use Rattle.demi_served.proofs.Places.{below, below_next, told_step}
 use Rattle.demi_served.proofs.Comes.{added_told}
 
 -- the version of a stored put counts its record, and its bytes are its value
-pub put_version : (limit place : ℕ) (r : Record) (s : Standing) (k : Option StoreTold) (v : ℕ) (bytes : List ℕ) → (said_at limit place s (Puts r) k).0 ≡ Told (Stored v bytes) → Stored v bytes ≡ Stored (length s.records + 1) r.value
+pub put_version : (limit place : ℕ) (r : Record) (s : Standing) (k : Option StoreTold) (v : ℕ) (bytes : List ℕ)
+    → (said_at limit place s (Puts r) k).0 ≡ Told (Stored v bytes)
+    → Stored v bytes ≡ Stored (length s.records + 1) r.value
 put_version limit place r s k v bytes h = go (nat_le limit (length s.records)) (told_step limit place r.link r.index s (Request_of (Put r.key r.value)) (Puts r) k (Stored v bytes) refl h).0
   where
-    go : (b : Bool) → Stored v bytes ≡ cond b (Full (length s.records)) (Stored (length s.records + 1) r.value) → Stored v bytes ≡ Stored (length s.records + 1) r.value
+    go : (b : Bool) → Stored v bytes ≡ cond b (Full (length s.records)) (Stored (length s.records + 1) r.value)
+        → Stored v bytes ≡ Stored (length s.records + 1) r.value
     go true e = absurd (cc)
     go false e = e
 
@@ -64,7 +67,8 @@ module _ (limit : ℕ) (struck : ℕ → Option StoreTold) (old : List Record) (
   abbrev pub StandFrom : ℕ → List Ask → Type 0
   StandFrom place asks = (i : ℕ) (a : Ask) → slice_get asks i ≡ Some a → slice_get all (place + i) ≡ Some a
 
-  stored_as_told : (place : ℕ) (s : Standing) (asks : List Ask) → s ≡ below limit struck old all place → StandFrom place asks → StoredFrom (length s.records + 1) (stored_from limit struck place s asks)
+  stored_as_told : (place : ℕ) (s : Standing) (asks : List Ask) → s ≡ below limit struck old all place
+      → StandFrom place asks → StoredFrom (length s.records + 1) (stored_from limit struck place s asks)
   stored_as_told place s [] is stand = tt
   stored_as_told place s (a ∷ asks) is stand =
       let zero_more : place + 0 ≡ place = omega arith in

@@ -35,7 +35,8 @@ abbrev pub draws_of : {X : Type 0} → ℕ → List X → List Draw → ℕ
 draws_of base [] draws = 0
 draws_of base (x ∷ xs) draws = length (of_link base draws) + draws_of (base + 1) xs draws
 
-no_fewer : {X : Type 0} (base : ℕ) (xs : List X) (d : Draw) (draws : List Draw) → draws_of base xs draws ≤ draws_of base xs (d ∷ draws)
+no_fewer : {X : Type 0} (base : ℕ) (xs : List X) (d : Draw) (draws : List Draw)
+    → draws_of base xs draws ≤ draws_of base xs (d ∷ draws)
 no_fewer base [] d draws = le_refl 0
 no_fewer base (x ∷ xs) d draws = let rest = no_fewer (base + 1) xs d draws in let one = go (d.link == base) in omega arith
   where
@@ -43,7 +44,8 @@ no_fewer base (x ∷ xs) d draws = let rest = no_fewer (base + 1) xs d draws in 
     go true = omega arith
     go false = le_refl _
 
-one_more : {X : Type 0} (base : ℕ) (xs : List X) (d : Draw) (draws : List Draw) → base ≤ d.link → d.link < base + length xs → draws_of base xs draws + 1 ≤ draws_of base xs (d ∷ draws)
+one_more : {X : Type 0} (base : ℕ) (xs : List X) (d : Draw) (draws : List Draw) → base ≤ d.link
+    → d.link < base + length xs → draws_of base xs draws + 1 ≤ draws_of base xs (d ∷ draws)
 one_more base [] d draws low high = absurd (omega arith)
 one_more base (x ∷ xs) d draws low high = elim (cases_eq d.link base) [
   | inl same ↦
@@ -68,15 +70,19 @@ one_more base (x ∷ xs) d draws low high = elim (cases_eq d.link base) [
     over : {a b : ℕ} → a ≤ b → b ≢ a → a + 1 ≤ b
     over {a} {b} l n = elim (cases_lt a b) [ inl less ↦ omega arith | inr not_less ↦ absurd (n (omega arith)) ]
 
-all_counted : {X : Type 0} (xs : List X) (draws : List Draw) → AllByRecursion (λ d. d.link < length xs) draws → length draws ≤ draws_of 0 xs draws
+all_counted : {X : Type 0} (xs : List X) (draws : List Draw) → AllByRecursion (λ d. d.link < length xs) draws
+    → length draws ≤ draws_of 0 xs draws
 all_counted xs [] h = omega arith
 all_counted xs (d ∷ draws) h = let rest = all_counted xs draws h.1 in let one = one_more 0 xs d draws (omega arith) (let less = h.0 in omega arith) in omega arith
 
-count_all : (test : Reply → Bool) (rs : List Reply) → AllByRecursion (λ r. test r ≡ true) rs → count_by test rs ≡ length rs
+count_all : (test : Reply → Bool) (rs : List Reply) → AllByRecursion (λ r. test r ≡ true) rs
+    → count_by test rs ≡ length rs
 count_all test [] h = refl
 count_all test (r ∷ rs) h = let e = count_all test rs h.1 in let one : cond {A = ℕ} (test r) 1 0 ≡ 1 = ap (λ c. cond {A = ℕ} c 1 0) h.0 in let sum = sum_by-append (λ r. cond (test r) 1 0) (r ∷ []) rs in omega (arith, e, one, sum)
 
-count_talks : (test : Reply → Bool) (base : ℕ) (talks : List Talk) (draws : List Draw) → Placed (λ l t. length (of_link l draws) ≤ count_by test t.replies) base talks → draws_of base talks draws ≤ count_by test (all_of talks)
+count_talks : (test : Reply → Bool) (base : ℕ) (talks : List Talk) (draws : List Draw)
+    → Placed (λ l t. length (of_link l draws) ≤ count_by test t.replies) base talks
+    → draws_of base talks draws ≤ count_by test (all_of talks)
 count_talks test base [] draws h = le_refl 0
 count_talks test base (t ∷ talks) draws h =
     let rest = count_talks test (base + 1) talks draws h.1 in
@@ -84,7 +90,8 @@ count_talks test base (t ∷ talks) draws h =
     let both = sum_by-append (λ r. cond (test r) 1 0) t.replies (all_of talks) in
     omega (arith, both)
 
-none_of : (link : ℕ) (draws : List Draw) → ((i : ℕ) (d : Draw) → slice_get draws i ≡ Some d → d.link ≢ link) → of_link link draws ≡ []
+none_of : (link : ℕ) (draws : List Draw) → ((i : ℕ) (d : Draw) → slice_get draws i ≡ Some d → d.link ≢ link)
+    → of_link link draws ≡ []
 none_of link [] h = refl
 none_of link (d ∷ draws) h =
     let other = h 0 d refl in
@@ -95,7 +102,8 @@ numbered_long : (link base : ℕ) (asks : List Asked) → length (numbered link 
 numbered_long link base [] = refl
 numbered_long link base (q ∷ asks) = ap suc (numbered_long link (base + 1) asks)
 
-any_in : (test : Reply → Bool) (rs : List Reply) (i : ℕ) (r : Reply) → slice_get rs i ≡ Some r → test r ≡ true → list_any test rs ≡ true
+any_in : (test : Reply → Bool) (rs : List Reply) (i : ℕ) (r : Reply) → slice_get rs i ≡ Some r → test r ≡ true
+    → list_any test rs ≡ true
 any_in test [] i r e h = absurd (cc)
 any_in test (x ∷ rs) zero r e h = ap (λ c. c || list_any test rs) (ap test (some_is e) ∙ h)
 any_in test (x ∷ rs) (suc i) r e h = also (test x) (any_in test rs i r e h)
@@ -108,7 +116,8 @@ any_left : (test : Reply → Bool) (xs ys : List Reply) → list_any test xs ≡
 any_left test [] ys h = absurd (cc)
 any_left test (x ∷ xs) ys h = go (any_left test xs ys) (test x) h
   where
-    go : (list_any test xs ≡ true → list_any test (xs ++ ys) ≡ true) → (a : Bool) → (a || list_any test xs) ≡ true → (a || list_any test (xs ++ ys)) ≡ true
+    go : (list_any test xs ≡ true → list_any test (xs ++ ys) ≡ true) → (a : Bool) → (a || list_any test xs) ≡ true
+        → (a || list_any test (xs ++ ys)) ≡ true
     go rest true h = refl
     go rest false h = rest h
 
@@ -120,12 +129,14 @@ any_right test (x ∷ xs) ys h = go (test x) (any_right test xs ys h)
     go true e = refl
     go false e = e
 
-any_talk : (test : Reply → Bool) (talks : List Talk) (l : ℕ) (t : Talk) → slice_get talks l ≡ Some t → list_any test t.replies ≡ true → list_any test (all_of talks) ≡ true
+any_talk : (test : Reply → Bool) (talks : List Talk) (l : ℕ) (t : Talk) → slice_get talks l ≡ Some t
+    → list_any test t.replies ≡ true → list_any test (all_of talks) ≡ true
 any_talk test [] l t e h = absurd (cc)
 any_talk test (x ∷ talks) zero t e h = any_left test x.replies (all_of talks) (ap (λ (z : Talk). list_any test z.replies) (some_is e) ∙ h)
 any_talk test (x ∷ talks) (suc l) t e h = any_right test x.replies (all_of talks) (any_talk test talks l t e h)
 
-whole_long : (links : List LinkRun) (talks : List Talk) → AllZip WholeTalk links talks → AllByRecursion (λ t. length t.replies ≡ length t.asks) talks
+whole_long : (links : List LinkRun) (talks : List Talk) → AllZip WholeTalk links talks
+    → AllByRecursion (λ t. length t.replies ≡ length t.asks) talks
 whole_long [] [] h = tt
 whole_long [] (t ∷ talks) h = absurd h
 whole_long (l ∷ links) [] h = absurd h
@@ -168,7 +179,8 @@ module _ (b : StoreBasis) (history : List StoreEntry) (trail : List (ℕ × Stor
       }
 
   -- a put that was told to be stored is a stored reply
-  put_replied : AllReplied → (v : ℕ) (r : Record) → IsStoredAs b.limit (struck_at trail) b.records asked_all v r → list_any (stored_as v) (all_of talks) ≡ true
+  put_replied : AllReplied → (v : ℕ) (r : Record) → IsStoredAs b.limit (struck_at trail) b.records asked_all v r
+      → list_any (stored_as v) (all_of talks) ≡ true
   put_replied long v r h =
       let k = put_reply long h.place r h.here in
       let answer : k.reply.answer ≡ Stored v r.value = told_is (sym k.told ∙ h.told) in
@@ -180,7 +192,9 @@ module _ (b : StoreBasis) (history : List StoreEntry) (trail : List (ℕ × Stor
       told_is e = cc
 
   -- no failed append is left
-  pub nothing_left : AllReplied → (extra : List Record) → IsLeft (standing_from b.limit (struck_at trail) 0 (opened b.records) asked_all).fault asked_all extra → extra ≡ []
+  pub nothing_left : AllReplied → (extra : List Record)
+      → IsLeft (standing_from b.limit (struck_at trail) 0 (opened b.records) asked_all).fault asked_all extra
+      → extra ≡ []
   nothing_left long extra (inl none) = none
   nothing_left long extra (inr one) =
       let r : Record = one.1 in
@@ -196,11 +210,14 @@ module _ (b : StoreBasis) (history : List StoreEntry) (trail : List (ℕ × Stor
       never : {x : Answer} → Told x ≡ Fault → ⊥
       never e = absurd (cc)
 
-  versions_stand : AllReplied → (v : ℕ) (rs : List Record) → StoredFrom b.limit (struck_at trail) b.records asked_all v rs → Placed (λ v r. IsTrue (list_any (stored_as v) (all_of talks))) v rs
+  versions_stand : AllReplied → (v : ℕ) (rs : List Record)
+      → StoredFrom b.limit (struck_at trail) b.records asked_all v rs
+      → Placed (λ v r. IsTrue (list_any (stored_as v) (all_of talks))) v rs
   versions_stand long v [] h = tt
   versions_stand long v (r ∷ rs) h = (put_replied long v r h.0, versions_stand long (v + 1) rs h.1)
 
-  pub stored : AllReplied → (logged : LeftInLog b (says history) trail run.records) → logged.extra ≡ [] → Placed (λ v r. IsTrue (list_any (stored_as v) (all_of talks))) (run.old + 1) (drop run.old run.records)
+  pub stored : AllReplied → (logged : LeftInLog b (says history) trail run.records) → logged.extra ≡ []
+      → Placed (λ v r. IsTrue (list_any (stored_as v) (all_of talks))) (run.old + 1) (drop run.old run.records)
   stored long logged none =
       let added : List Record = stored_from b.limit (struck_at trail) 0 (opened b.records) asked_all in
       let new : drop run.old run.records ≡ added =
@@ -212,7 +229,9 @@ module _ (b : StoreBasis) (history : List StoreEntry) (trail : List (ℕ × Stor
 
 module _ (b : StoreBasis) (end : Trail StoreAsk StoreTold) (history : List StoreEntry) (workers : List Worker) (links : List Link) (run : Run) (talks : List Talk) (ends : StoreEnds b end history workers links run talks) where
   -- of each link no more numbers were drawn by a worker than replies of that worker stand there
-  few : AllByRecursion (λ k. length k.drawn ≡ length k.replies) links → (n : ℕ) (w : Worker) → slice_get workers n ≡ Some w → (r : Reply) → r.worker ≡ n → (l : ℕ) (t : Talk) → slice_get talks l ≡ Some t → length (of_link l w.draws) ≤ count_by (same_worker r) t.replies
+  few : AllByRecursion (λ k. length k.drawn ≡ length k.replies) links → (n : ℕ) (w : Worker)
+      → slice_get workers n ≡ Some w → (r : Reply) → r.worker ≡ n → (l : ℕ) (t : Talk) → slice_get talks l ≡ Some t
+      → length (of_link l w.draws) ≤ count_by (same_worker r) t.replies
   few even n w here r is l t e =
       let z = zip_other IsTalkOf links talks l t ends.talked e in
       let k = z.0 in
@@ -244,13 +263,15 @@ module _ (b : StoreBasis) (end : Trail StoreAsk StoreTold) (history : List Store
       same_number : (x y : ℕ) → x ≡ y → (x == y) ≡ true
       same_number x y e = grind (arith, nat_tests)
 
-  zip_length : {X Y : Type 0} (R : X → Y → Type 0) (xs : List X) (ys : List Y) → AllZip R xs ys → length xs ≡ length ys
+  zip_length : {X Y : Type 0} (R : X → Y → Type 0) (xs : List X) (ys : List Y) → AllZip R xs ys
+      → length xs ≡ length ys
   zip_length R [] [] h = refl
   zip_length R [] (y ∷ ys) h = absurd h
   zip_length R (x ∷ xs) [] h = absurd h
   zip_length R (x ∷ xs) (y ∷ ys) h = ap suc (zip_length R xs ys h.1)
 
-  numbers : AllByRecursion (λ k. length k.drawn ≡ length k.replies) links → AllByRecursion (λ r. r.sequence ≤ count_by (same_worker r) (all_of talks)) (all_of talks)
+  numbers : AllByRecursion (λ k. length k.drawn ≡ length k.replies) links
+      → AllByRecursion (λ r. r.sequence ≤ count_by (same_worker r) (all_of talks)) (all_of talks)
   numbers even = all_flat (λ r. r.sequence ≤ count_by (same_worker r) (all_of talks)) (λ t. t.replies) talks
       (all_by (λ t. AllByRecursion (λ r. r.sequence ≤ count_by (same_worker r) (all_of talks)) t.replies) talks (λ l t e. all_by (λ r. r.sequence ≤ count_by (same_worker r) (all_of talks)) t.replies (λ i r d. (
       let z = zip_other IsTalkOf links talks l t ends.talked e in
@@ -270,7 +291,8 @@ module _ (b : StoreBasis) (end : Trail StoreAsk StoreTold) (history : List Store
       chain : {s n c d : ℕ} → s - 1 < n → n ≤ c → c ≤ d → s ≤ d
       chain a e f = omega arith
 
-  pub whole : AllByRecursion (λ k. length k.drawn ≡ length k.replies) links → AllZip WholeTalk run.links talks → Whole run
+  pub whole : AllByRecursion (λ k. length k.drawn ≡ length k.replies) links → AllZip WholeTalk run.links talks
+      → Whole run
   whole even read =
       let acc = accounted b end history workers links run talks ends in
       let long = whole_long run.links talks read in

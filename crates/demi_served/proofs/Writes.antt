@@ -74,7 +74,8 @@ has_push (Push sga ∷ ops) text texts e = (0, sga, refl)
 has_push (Close ∷ ops) text texts e = let k = has_push ops text texts e in (suc k.0, k.1, k.2)
 has_push (Stop ∷ ops) text texts e = let k = has_push ops text texts e in (suc k.0, k.1, k.2)
 
-torn_front : (r : Reply) (written : List ℕ) (replies : List Reply) → Torn written replies → Torn (spelling r ++ written) (r ∷ replies)
+torn_front : (r : Reply) (written : List ℕ) (replies : List Reply) → Torn written replies
+    → Torn (spelling r ++ written) (r ∷ replies)
 torn_front r written replies (inl e) = inl (ap (λ (l : List ℕ). spelling r ++ l) e)
 torn_front r written replies (inr (before, last, k, e, less, is)) =
     inr (r ∷ before, last, k, ap (λ (l : List Reply). r ∷ l) e, less, ap (λ (l : List ℕ). spelling r ++ l) is ∙ sym (append_assoc (spelling r) (flat_map spelling before) (take k (spelling last))))
@@ -100,14 +101,17 @@ module _ (h : List TxOp) (t : List (ℕ × ℕ)) where
   rest_stands k op ops s i d e = let n : k + 1 + i ≡ k + suc i = omega arith in ap (slice_get h) n ∙ s (suc i) d e
 
   -- the push at the place k that may be told to be written was written
-  pushed_whole : (k : ℕ) (sga : List HalfValue) (o : ℕ × TxOut) → slice_get h k ≡ Some (Push sga) → o.0 ≡ k → IsAdmitted o → TxAdmits h t k Pushed → o.1 ≡ Pushed
+  pushed_whole : (k : ℕ) (sga : List HalfValue) (o : ℕ × TxOut) → slice_get h k ≡ Some (Push sga) → o.0 ≡ k
+      → IsAdmitted o → TxAdmits h t k Pushed → o.1 ≡ Pushed
   pushed_whole k sga o here place admitted may =
       let stop = first_stop is_stop 0 (take k h) in
       let closed = has_close (take k h) in
       one_outcome stop sga (broken_at k t) closed (told_at k t) o.1 (subst (λ d. TxAnswer stop d (broken_at k t) closed (told_at k t) Pushed) here may)
       (subst (λ d. TxAnswer stop d (broken_at k t) closed (told_at k t) o.1) here (subst (λ p. TxAdmits h t p o.1) place admitted))
 
-  torn_from : (k : ℕ) (ops : List TxOp) (f : List (ℕ × TxOut)) (replies : List Reply) → StandsFrom k ops → InOrder k f → length f ≡ length ops → Each IsAdmitted f → WroteBefore h t → texts_of ops ≡ map spelling replies → Torn (all_written ops f) replies
+  torn_from : (k : ℕ) (ops : List TxOp) (f : List (ℕ × TxOut)) (replies : List Reply) → StandsFrom k ops → InOrder k f
+      → length f ≡ length ops → Each IsAdmitted f → WroteBefore h t → texts_of ops ≡ map spelling replies
+      → Torn (all_written ops f) replies
   torn_from k [] f [] s order count all before e = inl refl
   torn_from k [] f (r ∷ replies) s order count all before e = absurd (cc)
   torn_from k (op ∷ ops) [] replies s order count all before e = absurd (omega (arith, count))
@@ -131,7 +135,9 @@ module _ (h : List TxOp) (t : List (ℕ × ℕ)) where
       subst (λ (l : List ℕ). Torn (l ++ all_written ops f) (r ∷ x ∷ replies)) (sym (ap (written_of (array_bytes sga)) whole ∙ text))
       (torn_front r (all_written ops f) (x ∷ replies) (torn_from (k + 1) ops f (x ∷ replies) (rest_stands k (Push sga) ops s) order.1 (omega (arith, count)) all.1 before rest))
 
-  whole_from : (k : ℕ) (ops : List TxOp) (f : List (ℕ × TxOut)) (replies : List Reply) → StandsFrom k ops → InOrder k f → length f ≡ length ops → Each IsAdmitted f → WroteAll h t → texts_of ops ≡ map spelling replies → all_written ops f ≡ flat_map spelling replies
+  whole_from : (k : ℕ) (ops : List TxOp) (f : List (ℕ × TxOut)) (replies : List Reply) → StandsFrom k ops
+      → InOrder k f → length f ≡ length ops → Each IsAdmitted f → WroteAll h t → texts_of ops ≡ map spelling replies
+      → all_written ops f ≡ flat_map spelling replies
   whole_from k [] f [] s order count all each e = refl
   whole_from k [] f (r ∷ replies) s order count all each e = absurd (cc)
   whole_from k (op ∷ ops) [] replies s order count all each e = absurd (omega (arith, count))
@@ -149,8 +155,10 @@ module _ (h : List TxOp) (t : List (ℕ × ℕ)) where
 from_zero : (h : List TxOp) (i : ℕ) (d : TxOp) → slice_get h i ≡ Some d → slice_get h (0 + i) ≡ Some d
 from_zero h i d e = let n : 0 + i ≡ i = omega arith in ap (slice_get h) n ∙ e
 
-pub torn : (h : List TxOp) (f : List (ℕ × TxOut)) (replies : List Reply) → TxEnd h f → PushesEach h replies → WroteBefore h (trail told f) → Torn (all_written h f) replies
+pub torn : (h : List TxOp) (f : List (ℕ × TxOut)) (replies : List Reply) → TxEnd h f → PushesEach h replies
+    → WroteBefore h (trail told f) → Torn (all_written h f) replies
 torn h f replies e pushes before = torn_from h (trail told f) 0 h f replies (from_zero h) e.order e.count e.admitted before pushes
 
-pub written_whole : (h : List TxOp) (f : List (ℕ × TxOut)) (replies : List Reply) → TxEnd h f → PushesEach h replies → WroteAll h (trail told f) → all_written h f ≡ flat_map spelling replies
+pub written_whole : (h : List TxOp) (f : List (ℕ × TxOut)) (replies : List Reply) → TxEnd h f → PushesEach h replies
+    → WroteAll h (trail told f) → all_written h f ≡ flat_map spelling replies
 written_whole h f replies e pushes each = whole_from h (trail told f) 0 h f replies (from_zero h) e.order e.count e.admitted each pushes

@@ -24,13 +24,16 @@ use Rattle.demi_served.proofs.Folds.{said_open, said_by, said_at, added_by}
 use Rattle.demi_served.proofs.Comes.{step_fault}
 
 -- where a fault is said, the fault stands from there on
-pub fault_stands : (limit place : ℕ) (s : Standing) (a : Ask) (k : Option StoreTold) → s.fault ≡ None → (said_at limit place s a k).0 ≡ Fault → (said_at limit place s a k).1.fault ≡ Some place
+pub fault_stands : (limit place : ℕ) (s : Standing) (a : Ask) (k : Option StoreTold) → s.fault ≡ None
+    → (said_at limit place s a k).0 ≡ Fault → (said_at limit place s a k).1.fault ≡ Some place
 fault_stands limit place s a k none h = elim (step_fault limit place s a k none) [
   | inl still ↦ go s.stop h
   | inr now ↦ now.0
 ]
   where
-    put : (r : Record) (k : Option StoreTold) → (put_open limit place r.link r.index s (Request_of (Put r.key r.value)) k).0 ≡ Fault → (put_open limit place r.link r.index s (Request_of (Put r.key r.value)) k).1.fault ≡ Some place
+    put : (r : Record) (k : Option StoreTold)
+        → (put_open limit place r.link r.index s (Request_of (Put r.key r.value)) k).0 ≡ Fault
+        → (put_open limit place r.link r.index s (Request_of (Put r.key r.value)) k).1.fault ≡ Some place
     put r None h = absurd (cc)
     put r (Some ByDisk) h = by (nat_le limit (length s.records)) h
       where
@@ -43,7 +46,8 @@ fault_stands limit place s a k none h = elim (step_fault limit place s a k none)
         by true h = absurd (cc)
         by false h = absurd (cc)
 
-    open_ : (a : Ask) (k : Option StoreTold) (f : Option ℕ) → (said_open limit place s a k f).0 ≡ Fault → (said_open limit place s a k f).1.fault ≡ Some place
+    open_ : (a : Ask) (k : Option StoreTold) (f : Option ℕ) → (said_open limit place s a k f).0 ≡ Fault
+        → (said_open limit place s a k f).1.fault ≡ Some place
     open_ Stops k f h = absurd (cc)
     open_ (Puts r) k None h = put r k h
     open_ (Puts r) k (Some at) h = absurd (cc)
@@ -63,7 +67,8 @@ IsQuiet (Stopped at) = Unit {0}
 IsQuiet Halted = Unit {0}
 IsQuiet other = ⊥
 
-pub quiet_after : (limit place g : ℕ) (s : Standing) (a : Ask) (k : Option StoreTold) → s.fault ≡ Some g → IsQuiet (said_at limit place s a k).0
+pub quiet_after : (limit place g : ℕ) (s : Standing) (a : Ask) (k : Option StoreTold) → s.fault ≡ Some g
+    → IsQuiet (said_at limit place s a k).0
 quiet_after limit place g s a k h = go s.stop
   where
     open_ : (a : Ask) → IsQuiet (said_open limit place s a k (Some g)).0
@@ -88,13 +93,17 @@ module _ {D : Type 0} (bytes : D → Option (List ℕ)) (held faults : D → ℕ
   abbrev pub StepWrites : List ℕ → Option (List ℕ) → Ask → Said → Type 0
   StepWrites old now ask s = (now ≡ Some (old ++ entries_of (added_by ask s))) ⊎ ((r : Record) × (k : ℕ) × (ask ≡ Puts r) × (s ≡ Fault) × (now ≡ Some (old ++ take k (entry (payload r)))))
 
-  unchanged : (old : List ℕ) (la lb : DiskLog D) → lb ≡ la → bytes la.disk ≡ Some old → bytes lb.disk ≡ Some (old ++ [])
+  unchanged : (old : List ℕ) (la lb : DiskLog D) → lb ≡ la → bytes la.disk ≡ Some old
+      → bytes lb.disk ≡ Some (old ++ [])
   unchanged old la lb same h = ap (λ (l : DiskLog D). bytes l.disk) same ∙ h ∙ ap Some (sym (append-nil old))
 
-  pub by_answer : (la lb : DiskLog D) (o : StoreOp) (x y : StoreAnswer) → x ≡ y → LogGoes bytes held faults appends looks la lb o x → LogGoes bytes held faults appends looks la lb o y
+  pub by_answer : (la lb : DiskLog D) (o : StoreOp) (x y : StoreAnswer) → x ≡ y
+      → LogGoes bytes held faults appends looks la lb o x → LogGoes bytes held faults appends looks la lb o y
   by_answer la lb o x y e h = subst (λ z. LogGoes bytes held faults appends looks la lb o z) e h
 
-  pub step_writes : (old : List ℕ) (la lb : DiskLog D) (o : StoreOp) (s : Said) (answer : StoreAnswer) → AnswerIs s answer → LogGoes bytes held faults appends looks la lb o answer → bytes la.disk ≡ Some old → StepWrites old (bytes lb.disk) (asks_for o) s
+  pub step_writes : (old : List ℕ) (la lb : DiskLog D) (o : StoreOp) (s : Said) (answer : StoreAnswer)
+      → AnswerIs s answer → LogGoes bytes held faults appends looks la lb o answer → bytes la.disk ≡ Some old
+      → StepWrites old (bytes lb.disk) (asks_for o) s
   step_writes old la lb (op.Put link index key x) (Told (Stored v value)) answer is goes h =
       let g = by_answer la lb (op.Put link index key x) answer (said.Stored v) is goes in
       let e : List ℕ = entry (payload (record_of_put link index key x)) in
@@ -113,7 +122,8 @@ module _ {D : Type 0} (bytes : D → Option (List ℕ)) (held faults : D → ℕ
   step_writes old la lb (op.Put link index key x) Halted answer is goes h = inl (unchanged old la lb (by_answer la lb (op.Put link index key x) answer said.Halted is goes) h)
   step_writes old la lb (op.Get key room) s answer is goes h = inl (same answer goes ∙ ap Some (sym (append-nil old)))
     where
-      same : (answer : StoreAnswer) → LogGoes bytes held faults appends looks la lb (op.Get key room) answer → bytes lb.disk ≡ Some old
+      same : (answer : StoreAnswer) → LogGoes bytes held faults appends looks la lb (op.Get key room) answer
+          → bytes lb.disk ≡ Some old
       same (said.Found v) g = g.2 ∙ h
       same said.Fault g = g.2 ∙ h
       same (said.Stored v) g = ap (λ (l : DiskLog D). bytes l.disk) g ∙ h
@@ -125,7 +135,8 @@ module _ {D : Type 0} (bytes : D → Option (List ℕ)) (held faults : D → ℕ
       same said.Halted g = ap (λ (l : DiskLog D). bytes l.disk) g ∙ h
   step_writes old la lb op.Stop s answer is goes h = inl (same answer goes ∙ ap Some (sym (append-nil old)))
     where
-      same : (answer : StoreAnswer) → LogGoes bytes held faults appends looks la lb op.Stop answer → bytes lb.disk ≡ Some old
+      same : (answer : StoreAnswer) → LogGoes bytes held faults appends looks la lb op.Stop answer
+          → bytes lb.disk ≡ Some old
       same (said.Found v) g = ap (λ (l : DiskLog D). bytes l.disk) g ∙ h
       same said.Fault g = ap (λ (l : DiskLog D). bytes l.disk) g ∙ h
       same (said.Stored v) g = ap (λ (l : DiskLog D). bytes l.disk) g ∙ h

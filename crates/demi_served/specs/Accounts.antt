@@ -77,17 +77,23 @@ pub record Accounted (b : StoreBasis) (history : List StoreEntry) (trail : List 
   -- the log has the records of the history
   pub logged : LeftInLog b (says history) trail run.records
   -- the puts of the history are puts of the links, each at most once
-  pub puts : (p : ℕ) (x : StoreEntry) (r : Record) → slice_get history p ≡ Some x → asks_at x ≡ Puts r → IsAsked talks r
-  pub once : (p q : ℕ) (x y : StoreEntry) (r s : Record) → slice_get history p ≡ Some x → slice_get history q ≡ Some y → asks_at x ≡ Puts r → asks_at y ≡ Puts s
+  pub puts : (p : ℕ) (x : StoreEntry) (r : Record) → slice_get history p ≡ Some x → asks_at x ≡ Puts r
+      → IsAsked talks r
+  pub once : (p q : ℕ) (x y : StoreEntry) (r s : Record) → slice_get history p ≡ Some x → slice_get history q ≡ Some y
+      → asks_at x ≡ Puts r → asks_at y ≡ Puts s
       → r.link ≡ s.link → r.index ≡ s.index → p ≡ q
   -- the asks of one worker have numbers from 1 on, which rise by place
   pub counted : (p : ℕ) (x : StoreEntry) → slice_get history p ≡ Some x → IsNoStop (asks_at x) → 1 ≤ x.1.1.sequence
-  pub rises : (p q : ℕ) (x y : StoreEntry) → p < q → slice_get history p ≡ Some x → slice_get history q ≡ Some y → x.0 ≡ y.0 → IsLater x.1.1 y.1.1
+  pub rises : (p q : ℕ) (x y : StoreEntry) → p < q → slice_get history p ≡ Some x → slice_get history q ≡ Some y
+      → x.0 ≡ y.0 → IsLater x.1.1 y.1.1
   -- each reply stands where a request does, and is accounted for
-  pub replied : (link index : ℕ) (t : Talk) (r : Reply) → slice_get talks link ≡ Some t → slice_get t.replies index ≡ Some r
+  pub replied : (link index : ℕ) (t : Talk) (r : Reply) → slice_get talks link ≡ Some t
+      → slice_get t.replies index ≡ Some r
       → (q : Asked) × (slice_get t.asks index ≡ Some q) × (1 ≤ r.sequence) × IsAccounted b history trail q r (ask_of link index q)
   -- all replies of a link have one worker, and their numbers rise
   pub along : AllByRecursion (λ t. Pairwise IsNext t.replies) talks
   -- replies of one worker on two links have different numbers
-  pub apart : (link other i j : ℕ) (t u : Talk) (r s : Reply) → link ≢ other → slice_get talks link ≡ Some t → slice_get talks other ≡ Some u
-      → slice_get t.replies i ≡ Some r → slice_get u.replies j ≡ Some s → r.worker ≡ s.worker → r.sequence ≢ s.sequence
+  pub apart : (link other i j : ℕ) (t u : Talk) (r s : Reply) → link ≢ other → slice_get talks link ≡ Some t
+      → slice_get talks other ≡ Some u
+      → slice_get t.replies i ≡ Some r → slice_get u.replies j ≡ Some s → r.worker ≡ s.worker
+      → r.sequence ≢ s.sequence

@@ -28,8 +28,10 @@ pub record Did (history : List MemEntry) (p n : ℕ) (op : MemOp) (out : MemOut)
 -- until it was told that the queue is closed.
 pub record Shared (links workers : ℕ) (history : List MemEntry) : Type 0 where
   pub each : (l : ℕ) → l < links → (p : ℕ) × (n : ℕ) × (sga : List HalfValue) × Did history p n (Push 0 sga) Pushed × (number_of sga ≡ l)
-  pub none_else : (p n t : ℕ) (sga : List HalfValue) → slice_get history p ≡ Some (n, (t, Push 0 sga)) → number_of sga < links
-  pub once : (p q n m t u : ℕ) (sga next : List HalfValue) → slice_get history p ≡ Some (n, (t, Push 0 sga)) → slice_get history q ≡ Some (m, (u, Push 0 next)) → number_of sga ≡ number_of next → p ≡ q
+  pub none_else : (p n t : ℕ) (sga : List HalfValue) → slice_get history p ≡ Some (n, (t, Push 0 sga))
+      → number_of sga < links
+  pub once : (p q n m t u : ℕ) (sga next : List HalfValue) → slice_get history p ≡ Some (n, (t, Push 0 sga))
+      → slice_get history q ≡ Some (m, (u, Push 0 next)) → number_of sga ≡ number_of next → p ≡ q
   pub closed : (n : ℕ) → n < workers → (p : ℕ) × Did history p n (Pop 0) Closed
 
 -- the worker n got the link l: a pop of its pass got the link's number

@@ -19,7 +19,8 @@ ghost use Rattle.demi_served.specs.Sessions.{SessionAccounted};
 pub fn a_closed_session_is_accounted()
     ensures accounted { (b : StoreBasis) (end : Trail StoreAsk StoreTold) (history : List StoreEntry) (workers : List Worker) (links : List Link) (run : Run) (talks : List Talk) → StoreEnds b end history workers links run talks → Accounted b history end.told run talks }
     ensures all { (b : StoreBasis) (end : Trail StoreAsk StoreTold) (history : List StoreEntry) (workers : List Worker) (links : List Link) (ports : List LinkPorts) (memory : List MemEntry) (run : Run) (talks : List Talk) → StoreEnds b end history workers links run talks
-        → AllEnded run.links ports talks → Shared (length run.links) (length workers) memory → SessionAccounted b history end.told ports (length workers) memory run talks }
+        → AllEnded run.links ports talks → Shared (length run.links) (length workers) memory
+        → SessionAccounted b history end.told ports (length workers) memory run talks }
 {}
 
 /// Where one history accounts for each reply and each record, the replies are answers of one store and the records are
@@ -37,7 +38,8 @@ pub fn a_closed_session_is_served()
 /// Where besides each number that was drawn was replied, and each reply was written whole, the session was whole.
 pub fn a_session_without_fault_is_whole()
     ensures whole { (b : StoreBasis) (end : Trail StoreAsk StoreTold) (history : List StoreEntry) (workers : List Worker) (links : List Link) (run : Run) (talks : List Talk) → StoreEnds b end history workers links run talks
-        → AllByRecursion (λ k. length k.drawn ≡ length k.replies) links → AllZip WholeTalk run.links talks → Whole run }
+        → AllByRecursion (λ k. length k.drawn ≡ length k.replies) links → AllZip WholeTalk run.links talks
+        → Whole run }
 {}
 
 /// A session that was whole served.

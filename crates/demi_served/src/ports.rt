@@ -27,11 +27,16 @@ pub fn an_outcome_is_replied()
 /// What a store's port that was closed ensures of its passes is what is asked of a closed port, where each worker kept
 /// what its own pass submitted and was handed.
 pub fn a_closed_port_has_its_workers()
-    ensures closed { (end : StoreEnd) (workers : List Worker) (passes : List StorePass) → PassesOf 0 workers passes → Each (λ p. p.submitted ≡ of_pass p.number 0 end.history) passes → ((p : ℕ) (e : StoreEntry) → get_elem? end.history p ≡ some e → e.0 < length passes)
-        → end.heard ≡ says end.history → Each (λ p. Behind (known_at end) (known_by p)) passes → PortClosed (known_at end) end.history workers }
+    ensures closed { (end : StoreEnd) (workers : List Worker) (passes : List StorePass) → PassesOf 0 workers passes
+        → Each (λ p. p.submitted ≡ of_pass p.number 0 end.history) passes
+        → ((p : ℕ) (e : StoreEntry) → get_elem? end.history p ≡ some e → e.0 < length passes)
+        → end.heard ≡ says end.history → Each (λ p. Behind (known_at end) (known_by p)) passes
+        → PortClosed (known_at end) end.history workers }
 {}
 
 /// An engine that was served all that its device fetched was served the whole history of the port that was closed.
 pub fn an_engine_was_served_all<L: Law>()
-    ensures all { (history fetched : List (ℕ × (ℕ × L.Said))) (served : List L.Said) → StartsWith (ground_of fetched) served → ground_of fetched ≡ says history → length fetched ≡ length history → length fetched ≡ length served → served ≡ says history }
+    ensures all { (history fetched : List (ℕ × (ℕ × L.Said))) (served : List L.Said)
+        → StartsWith (ground_of fetched) served → ground_of fetched ≡ says history → length fetched ≡ length history
+        → length fetched ≡ length served → served ≡ says history }
 {}
