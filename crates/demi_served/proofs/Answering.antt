@@ -33,7 +33,8 @@ named records limit link index (Request_of (Put key value)) ask e = go (nat_le l
     r : Record
     r = record { link = link; index = index; key = key; value = value }
 
-    go : (b : Bool) → Named records (records ++ cond b [] (r ∷ [])) (cond b (Full (length records)) (Stored (length records + 1) value))
+    go : (b : Bool) → Named records (records ++ cond b [] (r ∷ []))
+        (cond b (Full (length records)) (Stored (length records + 1) value))
     go true = record { least = omega arith; most = let l = length-append records [] in omega arith; above = λ e. absurd (cc) }
     go false = let l = length-append records (r ∷ []) in record { least = omega arith; most = omega arith; above = λ e. (omega arith, omega arith) }
 named records limit link index (Request_of (Get key)) ask e = found_named records (store.map records key)
@@ -72,7 +73,8 @@ answers_there run records rest limit link index q ask e same_limit old all =
     let n = named records limit link index q ask e in
     let long : length run.records ≡ length now + length rest = ap length all ∙ length-append now rest in
     let adds : looked_at run.records a ++ added (looked_at run.records a) run.limit link index q ≡ now =
-    ap (λ (l : List Record). l ++ added l run.limit link index q) looked ∙ ap (λ m. records ++ added records m link index q) (sym same_limit) in
+    ap (λ (l : List Record). l ++ added l run.limit link index q) looked
+    ∙ ap (λ m. records ++ added records m link index q) (sym same_limit) in
     record {
       said = ap (λ (l : List Record). answer l run.limit q) looked ∙ ap (λ m. answer records m q) (sym same_limit);
       names = both (version_of a) n.least n.most (λ v low high. (let x = old in (omega arith, omega (arith, long))));

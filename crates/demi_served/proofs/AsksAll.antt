@@ -17,7 +17,8 @@ use Rattle.demi_served.specs.Alone.{Numbered, numbered_ask, with_ask, asked_with
 use Rattle.demi_served.proofs.Lists.{all_append}
 
 asked_push : (s : ℕ) (draws : List Draw) (d : Draw)
-    → asked_with s (draws ++ d ∷ []) ≡ asked_with s draws ++ with_ask (s + length draws) (ask_of d.link d.index d.request) []
+    → asked_with s (draws ++ d ∷ []) ≡ asked_with s draws ++ with_ask (s + length draws)
+    (ask_of d.link d.index d.request) []
 asked_push s [] d = let n : s ≡ s + 0 = omega arith in ap (λ m. with_ask m (ask_of d.link d.index d.request) []) n
 asked_push s (x ∷ draws) d = front (ask_of x.link x.index x.request) (asked_with (s + 1) (draws ++ d ∷ [])) (asked_with (s + 1) draws) (with_ask (s + suc (length draws)) (ask_of d.link d.index d.request) []) (asked_push (s + 1) draws d ∙ ap (λ m. asked_with (s + 1) draws ++ with_ask m (ask_of d.link d.index d.request) []) (shift s (length draws)))
   where
@@ -45,7 +46,8 @@ pub asked_all : (w : Worker) (link index : ℕ) (q : Asked) (op : StoreOp) (p t 
     → ask_of link index q ≡ Some (asks_for op) → AsksAll (after_ask w link index q op p t)
 asked_all w link index q op p t h some =
     let n : length w.draws + 1 ≡ 1 + length w.draws = omega arith in
-    said_push w.submitted (p, (t, record { sequence = length w.draws + 1; op = op })) ∙ ap (λ (l : List Numbered). l ++ record { sequence = length w.draws + 1; ask = asks_for op } ∷ []) h
+    said_push w.submitted (p, (t, record { sequence = length w.draws + 1; op = op }))
+    ∙ ap (λ (l : List Numbered). l ++ record { sequence = length w.draws + 1; ask = asks_for op } ∷ []) h
     ∙ ap (λ m. asked_with 1 w.draws ++ record { sequence = m; ask = asks_for op } ∷ []) n
     ∙ sym (asked_push 1 w.draws (record { link = link; index = index; request = q }) ∙ ap (λ (o : Option Ask). asked_with 1 w.draws ++ with_ask (1 + length w.draws) o []) some)
 
@@ -59,7 +61,8 @@ pub stopped_again : (w : Worker) (p t : ℕ) → AskedAll w → AskedAll (after_
 stopped_again w p t h = record {
   stops = h.stops ++ stop_ ∷ [];
   are_stops = all_append (λ s. s.ask ≡ Stops) h.stops (stop_ ∷ []) h.are_stops (refl, tt);
-  asked = said_push w.submitted _ ∙ ap (λ (l : List Numbered). l ++ stop_ ∷ []) h.asked ∙ append_assoc (asked_with 1 w.draws) h.stops (stop_ ∷ []);
+  asked = said_push w.submitted _ ∙ ap (λ (l : List Numbered). l ++ stop_ ∷ []) h.asked
+      ∙ append_assoc (asked_with 1 w.draws) h.stops (stop_ ∷ []);
 }
 
 -- the entries of a history that has those of one pass alone

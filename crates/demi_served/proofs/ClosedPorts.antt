@@ -54,6 +54,7 @@ pub served_all : {D : Type 0} (history : List (ℕ × (ℕ × D))) (ground serve
 served_all history ground served fetched begins grounded counted over =
     let whole : says history ≡ served ++ begins.0 = sym grounded ∙ begins.1 in
     let long = says_long history in
-    let sum : length (says history) ≡ length served + length begins.0 = ap length whole ∙ length-append served begins.0 in
+    let sum : length (says history) ≡ length served + length begins.0 = ap length whole
+    ∙ length-append served begins.0 in
     let none : length begins.0 ≡ 0 = omega (arith, sum, long, counted, over) in
     sym (whole ∙ ap (λ l. served ++ l) (nothing_more begins.0 none) ∙ append-nil served)

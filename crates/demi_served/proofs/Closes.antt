@@ -55,7 +55,8 @@ of_link_has link (x ∷ draws) zero d e own = go (x.link == link) refl
     go : (c : Bool) → (x.link == link) ≡ c
         → (j : ℕ) × (slice_get (cond c (x ∷ of_link link draws) (of_link link draws)) j ≡ Some d)
     go true t = (0, e)
-    go false t = let same : x.link ≡ link = ap (λ (z : Draw). z.link) (some_is e) ∙ own in absurd (grind (arith, nat_tests))
+    go false t = let same : x.link ≡ link = ap (λ (z : Draw). z.link) (some_is e)
+        ∙ own in absurd (grind (arith, nat_tests))
 of_link_has link (x ∷ draws) (suc i) d e own = go (of_link_has link draws i d e own) (x.link == link)
   where
     go : ((j : ℕ) × (slice_get (of_link link draws) j ≡ Some d)) → (c : Bool)
@@ -249,8 +250,10 @@ module _ (b : StoreBasis) (end : Trail StoreAsk StoreTold) (history : List Store
 
   -- one reply of a link, by its index
 
-  pub replies_at : (w : Worker) (number link above base : ℕ) (asks : List Asked) (replies : List Reply) (i : ℕ) (r : Reply) → RepliesKeep b w number link above base asks replies → slice_get replies i ≡ Some r
-      → (q : Asked) × (slice_get asks i ≡ Some q) × (r.worker ≡ number) × (above < r.sequence) × IsDrawn w.draws r.sequence (record { link = link; index = base + i; request = q }) × IsReplied b w q r (ask_of link (base + i) q)
+  pub replies_at : (w : Worker) (number link above base : ℕ) (asks : List Asked) (replies : List Reply) (i : ℕ)
+      (r : Reply) → RepliesKeep b w number link above base asks replies → slice_get replies i ≡ Some r
+      → (q : Asked) × (slice_get asks i ≡ Some q) × (r.worker ≡ number) ×
+      (above < r.sequence) × IsDrawn w.draws r.sequence (record { link = link; index = base + i; request = q }) × IsReplied b w q r (ask_of link (base + i) q)
   replies_at w number link above base asks [] i r h e = absurd (cc)
   replies_at w number link above base [] (s ∷ replies) i r h e = absurd h
   replies_at w number link above base (q ∷ asks) (s ∷ replies) zero r h e =

@@ -65,22 +65,26 @@ step_fault limit place s a k h = go s.stop
 
 -- after a fault nothing is added, and the fault stays
 pub broken_step : (limit place g : ℕ) (s : Standing) (a : Ask) (k : Option StoreTold) → s.fault ≡ Some g
-    → (o : Option ℕ) → ((said_by limit place s a k o).1.fault ≡ Some g) × (added_by a (said_by limit place s a k o).0 ≡ [])
+    → (o : Option ℕ) → ((said_by limit place s a k o).1.fault ≡ Some g) ×
+    (added_by a (said_by limit place s a k o).0 ≡ [])
 broken_step limit place g s a k h (Some at) = go a
   where
-    go : (a : Ask) → ((said_by limit place s a k (Some at)).1.fault ≡ Some g) × (added_by a (said_by limit place s a k (Some at)).0 ≡ [])
+    go : (a : Ask) → ((said_by limit place s a k (Some at)).1.fault ≡ Some g) ×
+        (added_by a (said_by limit place s a k (Some at)).0 ≡ [])
     go Stops = (h, refl)
     go (Puts r) = (h, refl)
     go (Gets key) = (h, refl)
 broken_step limit place g s a k h None = subst (λ (o : Option ℕ). ((said_open limit place s a k o).1.fault ≡ Some g) × (added_by a (said_open limit place s a k o).0 ≡ [])) (sym h) (go a)
   where
-    go : (a : Ask) → ((said_open limit place s a k (Some g)).1.fault ≡ Some g) × (added_by a (said_open limit place s a k (Some g)).0 ≡ [])
+    go : (a : Ask) → ((said_open limit place s a k (Some g)).1.fault ≡ Some g) ×
+        (added_by a (said_open limit place s a k (Some g)).0 ≡ [])
     go Stops = (h, refl)
     go (Puts r) = (h, refl)
     go (Gets key) = (h, refl)
 
 pub broken_rest : (limit : ℕ) (struck : ℕ → Option StoreTold) (place g : ℕ) (s : Standing) (asks : List Ask)
-    → s.fault ≡ Some g → ((standing_from limit struck place s asks).fault ≡ Some g) × (stored_from limit struck place s asks ≡ [])
+    → s.fault ≡ Some g → ((standing_from limit struck place s asks).fault ≡ Some g) ×
+    (stored_from limit struck place s asks ≡ [])
 broken_rest limit struck place g s [] h = (h, refl)
 broken_rest limit struck place g s (a ∷ asks) h =
     let one = broken_step limit place g s a (struck place) h s.stop in
@@ -122,7 +126,8 @@ module _ (all : List Ask) where
   first_stands place a asks h = let n : place + 0 ≡ place = omega arith in ap (slice_get all) (sym n) ∙ h 0 a refl
 
   next_stand : (place : ℕ) (a : Ask) (asks : List Ask) → StandFrom place (a ∷ asks) → StandFrom (place + 1) asks
-  next_stand place a asks h i x e = let n : place + 1 + i ≡ place + suc i = omega arith in ap (slice_get all) n ∙ h (suc i) x e
+  next_stand place a asks h i x e = let n : place + 1 + i ≡ place + suc i = omega arith in ap (slice_get all) n
+      ∙ h (suc i) x e
 
   stored_come : (limit : ℕ) (struck : ℕ → Option StoreTold) (place m : ℕ) (s : Standing) (asks : List Ask)
       → place + length asks ≡ m → StandFrom place asks → FromPuts place (stored_from limit struck place s asks) m
@@ -149,7 +154,8 @@ stands_itself : (asks : List Ask) → StandFrom asks 0 asks
 stands_itself asks i a e = let n : 0 + i ≡ i = omega arith in ap (slice_get asks) n ∙ e
 
 -- the stored records and the one that may be left of a failure
-pub records_come : (limit : ℕ) (struck : ℕ → Option StoreTold) (old : List Record) (asks : List Ask) (extra : List Record) → IsLeft (standing_from limit struck 0 (opened old) asks).fault asks extra
+pub records_come : (limit : ℕ) (struck : ℕ → Option StoreTold) (old : List Record) (asks : List Ask)
+    (extra : List Record) → IsLeft (standing_from limit struck 0 (opened old) asks).fault asks extra
     → (m : ℕ) × FromPuts asks 0 (stored_from limit struck 0 (opened old) asks ++ extra) m
 records_come limit struck old asks extra (inl none) = (
   length asks,

@@ -13,9 +13,12 @@ use Rattle.demi_served.proofs.Endings.{front_same}
 spelled_join : (before : List Request) (rest : List ℕ)
     → flat_map spelling (before ++ End ∷ []) ++ rest ≡ flat_map spelling before ++ (spelling End ++ rest)
 spelled_join [] rest = ap (λ (l : List ℕ). l ++ rest) (append-nil (spelling End))
-spelled_join (r ∷ before) rest = append_assoc (spelling r) (flat_map spelling (before ++ End ∷ [])) rest ∙ ap (λ (l : List ℕ). spelling r ++ l) (spelled_join before rest) ∙ sym (append_assoc (spelling r) (flat_map spelling before) (spelling End ++ rest))
+spelled_join (r ∷ before) rest = append_assoc (spelling r) (flat_map spelling (before ++ End ∷ [])) rest
+    ∙ ap (λ (l : List ℕ). spelling r ++ l) (spelled_join before rest)
+    ∙ sym (append_assoc (spelling r) (flat_map spelling before) (spelling End ++ rest))
 
-map_join : (before : List Request) → map Request_of before ++ Request_of End ∷ [] ≡ map Request_of (before ++ End ∷ [])
+map_join : (before : List Request) → map Request_of before ++ Request_of End ∷ [] ≡ map Request_of
+    (before ++ End ∷ [])
 map_join [] = refl
 map_join (r ∷ before) = ap (λ (l : List Asked). Request_of r ∷ l) (map_join before)
 
@@ -39,7 +42,8 @@ refused_front rest code true h = elim (front_same rest) [
 refused_asks : (handed : List Request) (rest : List ℕ) (code : ℕ) (ended : Bool) → AllGoOn handed
     → front false rest ≡ Ends (Refused code)
     → asked (flat_map spelling handed ++ rest) ended ≡ map Request_of handed ++ Refused_end code ∷ []
-refused_asks handed rest code ended all h = asked_on handed ended rest all ∙ ap (λ (l : List Asked). map Request_of handed ++ l) (asked_is [] (Refused code) ended rest (refused_front rest code ended h))
+refused_asks handed rest code ended all h = asked_on handed ended rest all
+    ∙ ap (λ (l : List Asked). map Request_of handed ++ l) (asked_is [] (Refused code) ended rest (refused_front rest code ended h))
 
 pub begins : (fed : List ℕ) (handed : List Request) (d : Decoding) (ended : Bool) → HasRead fed handed d
     → StartsWith (asked fed ended) (map Request_of handed)
@@ -58,7 +62,9 @@ pub at_end_frame : (fed : List ℕ) (handed : List Request) (d : Decoding) (ende
     → d.stop ≡ Some step.End → asked fed ended ≡ map Request_of handed
 at_end_frame fed handed d ended h stop =
     let s = subst (StopsAt handed d.rest) stop h.stops in
-    ap (λ (l : List ℕ). asked l ended) h.text ∙ ap (λ (l : List Request). asked (flat_map spelling l ++ d.rest) ended) s.1 ∙ ended_asks s.0 d.rest ended s.2 ∙ ap (map Request_of) (sym s.1)
+    ap (λ (l : List ℕ). asked l ended) h.text
+    ∙ ap (λ (l : List Request). asked (flat_map spelling l ++ d.rest) ended) s.1 ∙ ended_asks s.0 d.rest ended s.2
+    ∙ ap (map Request_of) (sym s.1)
 
 pub refused : (fed : List ℕ) (handed : List Request) (d : Decoding) (ended : Bool) (code : ℕ) → HasRead fed handed d
     → d.stop ≡ Some (step.Refused code) → asked fed ended ≡ map Request_of handed ++ Refused_end code ∷ []

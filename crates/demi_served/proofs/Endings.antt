@@ -49,7 +49,8 @@ after_same a b f g (inr (how, x, y)) h = inr (ap (λ (z : Front). (after_front z
 after_same a b f g (inl e) h = subst (λ z. Extends (after_front a f) (after_front z g)) e (go a)
   where
     cons : (q : Request) (x y : Parsed) → Extends x y
-        → Extends (record { requests = q ∷ x.requests; how = x.how }) (record { requests = q ∷ y.requests; how = y.how })
+        → Extends (record { requests = q ∷ x.requests; how = x.how })
+        (record { requests = q ∷ y.requests; how = y.how })
     cons q x y (inl e) = inl (ap (λ (p : Parsed). record { requests = q ∷ p.requests; how = p.how }) e)
     cons q x y (inr (s, o)) = inr (ap (λ (l : List Request). q ∷ l) s, o)
 
@@ -73,6 +74,8 @@ unfolding parse
 asked_settled bytes settled = go (within_same (length bytes + 1) bytes)
   where
     go : Extends (parse_within (length bytes + 1) false bytes) (parse_within (length bytes + 1) true bytes)
-        → asked_of (parse_within (length bytes + 1) true bytes).requests (parse_within (length bytes + 1) true bytes).how ≡ asked_of (parse_within (length bytes + 1) false bytes).requests (parse_within (length bytes + 1) false bytes).how
+        → asked_of (parse_within (length bytes + 1) true bytes).requests
+        (parse_within (length bytes + 1) true bytes).how ≡ asked_of
+        (parse_within (length bytes + 1) false bytes).requests (parse_within (length bytes + 1) false bytes).how
     go (inl e) = ap (λ (p : Parsed). asked_of p.requests p.how) (sym e)
     go (inr (same, open_end)) = absurd (settled open_end)

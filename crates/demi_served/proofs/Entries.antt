@@ -42,7 +42,8 @@ module _ {D : Type 0} where
   all_of_pass P n place (x ∷ history) zero e h at own = go (x.0 == n) refl h
     where
       go : (c : Bool) → (x.0 == n) ≡ c → AllByRecursion P (cond c ((place, x.1) ∷ of_pass n (place + 1) history) (of_pass n (place + 1) history)) → P (place + 0, e.1)
-      go false t h = let number : x.0 ≡ n = ap (λ (z : ℕ × D). z.0) (some_is at) ∙ own in absurd (grind (arith, nat_tests))
+      go false t h = let number : x.0 ≡ n = ap (λ (z : ℕ × D). z.0) (some_is at)
+          ∙ own in absurd (grind (arith, nat_tests))
       go true t h = let m : place ≡ place + 0 = omega arith in subst (λ k. P (k, e.1)) m (subst (λ (z : ℕ × D). P (place, z.1)) (some_is at) h.0)
   all_of_pass P n place (x ∷ history) (suc i) e h at own = let m : place + 1 + i ≡ place + suc i = omega arith in subst (λ k. P (k, e.1)) m (go (λ more. all_of_pass P n (place + 1) history i e more at own) (x.0 == n) h)
     where
@@ -61,7 +62,8 @@ module _ {D : Type 0} where
   pairs_of_pass R n place (x ∷ history) zero (suc j) e f h less at to own too = go (x.0 == n) refl h
     where
       go : (c : Bool) → (x.0 == n) ≡ c → Pairwise R (cond c ((place, x.1) ∷ of_pass n (place + 1) history) (of_pass n (place + 1) history)) → R (place + 0, e.1) (place + suc j, f.1)
-      go false t h = let number : x.0 ≡ n = ap (λ (z : ℕ × D). z.0) (some_is at) ∙ own in absurd (grind (arith, nat_tests))
+      go false t h = let number : x.0 ≡ n = ap (λ (z : ℕ × D). z.0) (some_is at)
+          ∙ own in absurd (grind (arith, nat_tests))
       go true t h =
           let k : place ≡ place + 0 = omega arith in
           let m : place + 1 + j ≡ place + suc j = omega arith in

@@ -162,7 +162,8 @@ the_value_of_another_prefix_is_refused h = let e = h.said in absurd (cc)
 a_version_beyond_the_log_is_refused : Answers run 0 1 (Request_of (Get (0x61 ∷ []))) (Found 2 (0x31 ∷ [])) → ⊥
 a_version_beyond_the_log_is_refused h = let le = h.names.1 in absurd (omega arith)
 
-the_record_of_another_request_is_refused : Answers run 0 1 (Request_of (Put (0x61 ∷ []) (0x31 ∷ []))) (Stored 1 (0x31 ∷ [])) → ⊥
+the_record_of_another_request_is_refused : Answers run 0 1 (Request_of (Put (0x61 ∷ []) (0x31 ∷ [])))
+    (Stored 1 (0x31 ∷ [])) → ⊥
 the_record_of_another_request_is_refused h = let e = (h.stores refl).1 in absurd (differ (ap first_index e))
   where
     first_index : List Record → ℕ
@@ -172,7 +173,8 @@ the_record_of_another_request_is_refused h = let e = (h.stores refl).1 in absurd
     differ : zero ≡ suc zero → ⊥
     differ e = absurd (omega (arith, e))
 
-a_put_answered_with_another_value_is_refused : Answers run 0 0 (Request_of (Put (0x61 ∷ []) (0x31 ∷ []))) (Stored 1 []) → ⊥
+a_put_answered_with_another_value_is_refused : Answers run 0 0 (Request_of (Put (0x61 ∷ []) (0x31 ∷ [])))
+    (Stored 1 []) → ⊥
 a_put_answered_with_another_value_is_refused h = let e = h.said in absurd (cc)
 
 a_full_reply_below_the_limit_is_refused : Answers run 0 0 (Request_of (Put (0x61 ∷ []) (0x31 ∷ []))) (Full 1) → ⊥
@@ -182,14 +184,18 @@ a_full_reply_below_the_limit_is_refused h = let e = h.said in absurd (cc)
 a_record_appended_twice_is_refused : OfTwoRequests kept kept → ⊥
 a_record_appended_twice_is_refused h = h refl refl
 
-a_number_used_twice_is_refused : InStep (record { worker = 1; sequence = 4; answer = Bye }) (record { worker = 1; sequence = 4; answer = Bye }) → ⊥
+a_number_used_twice_is_refused : InStep (record { worker = 1; sequence = 4; answer = Bye })
+    (record { worker = 1; sequence = 4; answer = Bye }) → ⊥
 a_number_used_twice_is_refused h = h.differ refl refl
 
-a_later_number_with_a_smaller_version_is_refused : InStep (record { worker = 1; sequence = 4; answer = Missing 7 }) (record { worker = 1; sequence = 5; answer = Missing 6 }) → ⊥
+a_later_number_with_a_smaller_version_is_refused : InStep (record { worker = 1; sequence = 4; answer = Missing 7 })
+    (record { worker = 1; sequence = 5; answer = Missing 6 }) → ⊥
 a_later_number_with_a_smaller_version_is_refused h = let le = h.rises refl (omega arith) in absurd (omega arith)
 
-two_workers_need_not_agree : InStep (record { worker = 1; sequence = 4; answer = Missing 7 }) (record { worker = 2; sequence = 5; answer = Missing 6 })
+two_workers_need_not_agree : InStep (record { worker = 1; sequence = 4; answer = Missing 7 })
+    (record { worker = 2; sequence = 5; answer = Missing 6 })
 two_workers_need_not_agree = record { differ = λ e. absurd (omega (arith, e)); rises = λ e. absurd (omega (arith, e)); falls = λ e. absurd (omega (arith, e)) }
 
-two_workers_along_a_link_are_refused : IsNext (record { worker = 1; sequence = 4; answer = Bye }) (record { worker = 2; sequence = 5; answer = Bye }) → ⊥
+two_workers_along_a_link_are_refused : IsNext (record { worker = 1; sequence = 4; answer = Bye })
+    (record { worker = 2; sequence = 5; answer = Bye }) → ⊥
 two_workers_along_a_link_are_refused h = let e = h.0 in absurd (omega (arith, e))

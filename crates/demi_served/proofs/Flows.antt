@@ -51,7 +51,8 @@ same_answer (Some s) op found here n o x a b = ap bytes_of (a.0 ∙ sym b.0)
 same_answer None None found here n o x a b = absurd a
 same_answer None (Some Stop) found here n o x a b = ap bytes_of (a ∙ sym b)
 same_answer None (Some (Pop max)) (Some r) here n o x a b = ap bytes_of (a ∙ sym b)
-same_answer None (Some (Pop max)) None here n o x a b = same_told o ∙ ap told_bytes (a.0 ∙ sym b.0) ∙ sym (same_told x)
+same_answer None (Some (Pop max)) None here n o x a b = same_told o ∙ ap told_bytes (a.0 ∙ sym b.0)
+    ∙ sym (same_told x)
 
 -- what is no pop gives no bytes
 no_bytes : (stop : Option ℕ) (op : Option RxOp) (found : Option RxOut) (here : Option RxTold) (n : ℕ) (o : RxOut)

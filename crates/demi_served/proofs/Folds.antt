@@ -67,13 +67,15 @@ take_asked (suc n) [] = refl
 take_asked (suc n) (a ∷ asks) = ap (λ (l : List Ask). asks_for a.op ∷ l) (take_asked n asks)
 
 pub result_is : (b : StoreBasis) (history : List StoreAsk) (trail : List (ℕ × StoreTold)) (p : ℕ) (a : StoreAsk)
-    → said_to b history trail p a ≡ storeresult b.limit b.records (struck_at trail) (asked_in history) p (asks_for a.op)
+    → said_to b history trail p a ≡ storeresult b.limit b.records (struck_at trail) (asked_in history) p
+    (asks_for a.op)
 result_is b history trail p a =
     ap (λ (s : Standing). (ops.said_at b.limit p s a (struck_at trail p)).0) (standing_is b.limit (struck_at trail) 0 (opened b.records) (take p history) ∙ ap (standing_from b.limit (struck_at trail) 0 (opened b.records)) (take_asked p history))
     ∙ ap (λ (x : Said × Standing). x.0) (at_is b.limit p (standing_from b.limit (struck_at trail) 0 (opened b.records) (take p (asked_in history))) a (struck_at trail p))
 
 pub end_is : (b : StoreBasis) (history : List StoreAsk) (trail : List (ℕ × StoreTold))
-    → standing_at_end b history trail ≡ standing_from b.limit (struck_at trail) 0 (opened b.records) (asked_in history)
+    → standing_at_end b history trail ≡ standing_from b.limit (struck_at trail) 0 (opened b.records)
+    (asked_in history)
 end_is b history trail = standing_is b.limit (struck_at trail) 0 (opened b.records) history
 
 -- the records of the puts that are told to be stored
@@ -145,7 +147,8 @@ pub history_adds : (limit : ℕ) (struck : ℕ → Option StoreTold) (place : �
 history_adds limit struck place s [] = sym (append-nil s.records)
 history_adds limit struck place s (a ∷ asks) =
     let now : Standing = (said_at limit place s a (struck place)).1 in
-    history_adds limit struck (place + 1) now asks ∙ ap (λ (l : List Record). l ++ stored_from limit struck (place + 1) now asks) (by_adds limit place s a (struck place) s.stop)
+    history_adds limit struck (place + 1) now asks
+    ∙ ap (λ (l : List Record). l ++ stored_from limit struck (place + 1) now asks) (by_adds limit place s a (struck place) s.stop)
     ∙ append_assoc s.records (added_by a (said_at limit place s a (struck place)).0) (stored_from limit struck (place + 1) now asks)
 
 pub history_grows : (limit : ℕ) (struck : ℕ → Option StoreTold) (place : ℕ) (s : Standing) (asks : List Ask)
@@ -153,7 +156,8 @@ pub history_grows : (limit : ℕ) (struck : ℕ → Option StoreTold) (place : �
 history_grows limit struck place s asks = (stored_from limit struck place s asks, history_adds limit struck place s asks)
 
 pub history_join : (limit : ℕ) (struck : ℕ → Option StoreTold) (place : ℕ) (s : Standing) (first second : List Ask)
-    → standing_from limit struck place s (first ++ second) ≡ standing_from limit struck (place + length first) (standing_from limit struck place s first) second
+    → standing_from limit struck place s (first ++ second) ≡ standing_from limit struck (place + length first)
+    (standing_from limit struck place s first) second
 history_join limit struck place s [] second = ap (λ n. standing_from limit struck n s second) (omega arith)
 history_join limit struck place s (a ∷ first) second =
     history_join limit struck (place + 1) (said_at limit place s a (struck place)).1 first second

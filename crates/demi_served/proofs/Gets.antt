@@ -71,7 +71,8 @@ module _ (h : List MemOp) where
       let d = distance p (length h) le in
       let g = items_grow p d.0 (omega (arith, d.1)) in
       let all : counts 1024 h ≡ at (p + d.0) = sym whole ∙ ap at (sym d.1) in
-      ap (λ (t : Counts). slice_get (items t) j) all ∙ ap (λ (l : List (List HalfValue)). slice_get l j) g.1 ∙ get_left (items (at p)) g.0 j x e
+      ap (λ (t : Counts). slice_get (items t) j) all ∙ ap (λ (l : List (List HalfValue)). slice_get l j) g.1
+      ∙ get_left (items (at p)) g.0 j x e
     where
       distance : (a b : ℕ) → a ≤ b → (d : ℕ) × (a + d ≡ b)
       distance zero b le = (b, omega arith)
@@ -203,7 +204,8 @@ module _ (h : List MemOp) where
   unfolding at
   push_is p x here told =
       let inside = get_within h p (Push 0 x) here in
-      let more : items (at (p + 1)) ≡ items (at p) ++ x ∷ [] = ap items (next p (Push 0 x) here) ∙ push_told 1024 p x (counts 1024 (take p h)) (counts 1024 h) (ap (λ (o : Option MemOp). answer_of o 1024 (counts 1024 (take p h)) (counts 1024 h)) (sym here) ∙ told) in
+      let more : items (at (p + 1)) ≡ items (at p) ++ x ∷ [] = ap items (next p (Push 0 x) here)
+      ∙ push_told 1024 p x (counts 1024 (take p h)) (counts 1024 h) (ap (λ (o : Option MemOp). answer_of o 1024 (counts 1024 (take p h)) (counts 1024 h)) (sym here) ∙ told) in
       stays (p + 1) (length (items (at p))) x (omega arith) (ap (λ (l : List (List HalfValue)). slice_get l (length (items (at p)))) more ∙ get_last (items (at p)) x)
 
   -- two accepted pops of one number are one
@@ -230,7 +232,8 @@ module _ (h : List MemOp) where
           let inside = get_within h q (Pop 0) there in
           let d = distance p q (omega arith) in
           let grows = pops_grow (p + 1) d.0 (omega (arith, d.1)) in
-          let up : popped 0 (at (p + 1)) ≡ popped 0 (at p) + 1 = ap (popped 0) (next p (Pop 0) here) ∙ counts_one 1024 p (at p) s.calm s.made in
+          let up : popped 0 (at (p + 1)) ≡ popped 0 (at p) + 1 = ap (popped 0) (next p (Pop 0) here)
+          ∙ counts_one 1024 p (at p) s.calm s.made in
           let last : popped 0 (at (p + 1 + d.0)) ≡ popped 0 (at q) = ap (λ m. popped 0 (at m)) d.1 in
           over grows up last same
         where

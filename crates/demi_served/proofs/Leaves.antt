@@ -53,7 +53,8 @@ module _ (b : StoreBasis) (history : List StoreEntry) (trail : List (ℕ × Stor
   pub drop_next : (xs : List Ask) (p : ℕ) (x : Ask) (ys : List Ask) → drop p xs ≡ x ∷ ys → drop (p + 1) xs ≡ ys
   drop_next xs zero x ys e = ap (drop 1) e
   drop_next [] (suc p) x ys e = absurd (cc)
-  drop_next (z ∷ xs) (suc p) x ys e = let n : suc p + 1 ≡ suc (p + 1) = omega arith in ap (λ m. drop m (z ∷ xs)) n ∙ drop_next xs p x ys e
+  drop_next (z ∷ xs) (suc p) x ys e = let n : suc p + 1 ≡ suc (p + 1) = omega arith in ap (λ m. drop m (z ∷ xs)) n
+      ∙ drop_next xs p x ys e
 
   pub records_in_order : (i p : ℕ) (qs : List Asked) (rs : List Reply)
       → drop p all_asks ≡ wants (asked_with (i + 1) (numbered 0 i qs) ++ stops)
@@ -105,7 +106,8 @@ MayLeave limit index q s place next =
 
 put_leaves : (limit place index : ℕ) (key value : List ℕ) (s : Standing) (k : Option StoreTold) (o : Option ℕ)
     → s.fault ≡ None
-    → MayLeave limit index (Request_of (Put key value)) s place (said_by limit place s (Puts (record { link = 0; index = index; key = key; value = value })) k o).1
+    → MayLeave limit index (Request_of (Put key value)) s place
+    (said_by limit place s (Puts (record { link = 0; index = index; key = key; value = value })) k o).1
 put_leaves limit place index key value s k (Some at) none = inl (refl, none)
 put_leaves limit place index key value s k None none = subst (λ (x : Option ℕ). MayLeave limit index q s place (said_open limit place s (Puts r) k x).1) (sym none) (go k)
   where
@@ -145,7 +147,8 @@ get_leaves : (limit place index : ℕ) (key : List ℕ) (s : Standing) (k : Opti
 get_leaves limit place index key s k (Some at) none = inl (refl, none)
 get_leaves limit place index key s k None none = subst (λ (x : Option ℕ). MayLeave limit index (Request_of (Get key)) s place (said_open limit place s (Gets key) k x).1) (sym none) (go k)
   where
-    go : (k : Option StoreTold) → MayLeave limit index (Request_of (Get key)) s place (said_open limit place s (Gets key) k None).1
+    go : (k : Option StoreTold) → MayLeave limit index (Request_of (Get key)) s place
+        (said_open limit place s (Gets key) k None).1
     go None = inl (refl, none)
     go (Some ByDisk) = inr (inr (refl, refl, λ r e. absurd (cc)))
     go (Some ByMemory) = inl (refl, none)
@@ -158,10 +161,12 @@ leaves limit place index (Request_of End) ask s k is none = absurd (cc)
 leaves limit place index (Refused_end code) ask s k is none = absurd (cc)
 
 pub serial_push : (i limit : ℕ) (records : List Record) (qs : List Asked) (q : Asked)
-    → (serial_from i records limit (qs ++ q ∷ [])).records ≡ (serial_from i records limit qs).records ++ added (records ++ (serial_from i records limit qs).records) limit 0 (i + length qs) q
+    → (serial_from i records limit (qs ++ q ∷ [])).records ≡ (serial_from i records limit qs).records ++ added
+    (records ++ (serial_from i records limit qs).records) limit 0 (i + length qs) q
 serial_push i limit records [] q =
     let n : i ≡ i + 0 = omega arith in
-    append-nil (added records limit 0 i q) ∙ ap (λ m. added records limit 0 m q) n ∙ ap (λ (l : List Record). added l limit 0 (i + 0) q) (sym (append-nil records))
+    append-nil (added records limit 0 i q) ∙ ap (λ m. added records limit 0 m q) n
+    ∙ ap (λ (l : List Record). added l limit 0 (i + 0) q) (sym (append-nil records))
 serial_push i limit records (x ∷ qs) q =
     let new : List Record = added records limit 0 i x in
     let more : List Record = (serial_from (i + 1) (records ++ new) limit qs).records in
@@ -202,7 +207,8 @@ module _ (b : StoreBasis) (history : List StoreEntry) (trail : List (ℕ × Stor
           let n : i + 1 + length qs ≡ i + length (q ∷ qs) = omega arith in
           record {
             place = e.place;
-            records = e.records ∙ ap (λ (l : List Record). l ++ (serial_from (i + 1) l b.limit qs).records) same ∙ append_assoc records new (serial_from (i + 1) (records ++ new) b.limit qs).records;
+            records = e.records ∙ ap (λ (l : List Record). l ++ (serial_from (i + 1) l b.limit qs).records) same
+                ∙ append_assoc records new (serial_from (i + 1) (records ++ new) b.limit qs).records;
             calm = e.calm;
             rest = e.rest ∙ ap (λ m. wants (asked_with (m + 1) (numbered 0 m tail) ++ stops)) n;
           }

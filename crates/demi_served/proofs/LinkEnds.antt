@@ -53,7 +53,8 @@ module _ {S : Type 0} (taken : S → ℕ) (left : S → Option (List ℕ)) (faul
       → left a.source ≡ prepend_known (pieces_in (trail rx.told b.finished)) (left b.source)
   rx_took a b not goes =
       let f = begun a.finished b.finished goes.added not goes.finished in
-      goes.left_is ∙ ap (λ l. prepend_known (all_bytes l) (left b.source)) (sym f) ∙ ap (λ l. prepend_known l (left b.source)) (sym (pieces_are b.finished))
+      goes.left_is ∙ ap (λ l. prepend_known (all_bytes l) (left b.source)) (sym f)
+      ∙ ap (λ l. prepend_known l (left b.source)) (sym (pieces_are b.finished))
 
 module _ {S : Type 0} (written : S → Option (List ℕ)) (faults : S → ℕ) where
   pub tx_end : (a b : TxValue S) (seat : DeviceValue TxOp ℕ HeapId) → a.served ≡ [] → a.finished ≡ []
@@ -72,7 +73,8 @@ module _ {S : Type 0} (written : S → Option (List ℕ)) (faults : S → ℕ) w
   tx_wrote a b none not goes =
       let f = begun a.finished b.finished goes.added not goes.finished in
       let h = begun a.served b.served goes.more none goes.served in
-      goes.written_is ∙ ap (λ l. append_known (written a.sink) (all_written l goes.added)) (sym h) ∙ ap (λ l. append_known (written a.sink) (all_written b.served l)) (sym f)
+      goes.written_is ∙ ap (λ l. append_known (written a.sink) (all_written l goes.added)) (sym h)
+      ∙ ap (λ l. append_known (written a.sink) (all_written b.served l)) (sym f)
 
 pub talk : (l : LinkRun) (e : LinkPorts) (t : Talk) → LinkEnded l e t → TornTalk l t
 talk l e t h = record { asks = h.asks; fits = h.fits; written = subst (λ (w : List ℕ). Torn w t.replies) (sym h.accounted.written) (torn e.pushes e.wrote t.replies h.sends h.accounted.pushed h.before) }

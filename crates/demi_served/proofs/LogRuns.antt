@@ -35,7 +35,8 @@ use Rattle.demi_served.proofs.Writing.{asks_in, outs, fault_stands, quiet_after,
 
 entries_join : (a c : List Record) → entries_of (a ++ c) ≡ entries_of a ++ entries_of c
 entries_join [] c = refl
-entries_join (r ∷ a) c = ap (λ (l : List ℕ). entry (payload r) ++ l) (entries_join a c) ∙ sym (append_assoc (entry (payload r)) (entries_of a) (entries_of c))
+entries_join (r ∷ a) c = ap (λ (l : List ℕ). entry (payload r) ++ l) (entries_join a c)
+    ∙ sym (append_assoc (entry (payload r)) (entries_of a) (entries_of c))
 
 -- what is left where the fault stands: nothing, or of the put there its record, or a proper front of its entry
 abbrev pub Leaves : Option ℕ → ℕ → List Ask → List Record → List ℕ → Type 0
@@ -125,7 +126,8 @@ module _ {D : Type 0} (bytes : D → Option (List ℕ)) (held faults : D → ℕ
             record {
               extra = extra;
               torn = torn;
-              is = quiet_run xs (p + 1) p t.1 b c steps.2 each.1 fault ∙ here ∙ ap Some is ∙ ap (λ (l : List Record). Some (old ++ (entries_of (l ++ extra) ++ torn))) (sym none_stored);
+              is = quiet_run xs (p + 1) p t.1 b c steps.2 each.1 fault ∙ here ∙ ap Some is
+                  ∙ ap (λ (l : List Record). Some (old ++ (entries_of (l ++ extra) ++ torn))) (sym none_stored);
               left = subst (λ (f : Option ℕ). Leaves f p (ask ∷ asks_in xs) extra torn) (sym k.0) left;
             }
 
@@ -133,7 +135,8 @@ module _ {D : Type 0} (bytes : D → Option (List ℕ)) (held faults : D → ℕ
             → Ran old p s (x ∷ xs) (bytes c.core.log.disk)
         onwards now is r =
             let joined : now ++ (entries_of (rest ++ r.extra) ++ r.torn) ≡ old ++ (entries_of ((new ++ rest) ++ r.extra) ++ r.torn) =
-            ap (λ (l : List ℕ). l ++ (entries_of (rest ++ r.extra) ++ r.torn)) is ∙ append_assoc old (entries_of new) (entries_of (rest ++ r.extra) ++ r.torn)
+            ap (λ (l : List ℕ). l ++ (entries_of (rest ++ r.extra) ++ r.torn)) is
+            ∙ append_assoc old (entries_of new) (entries_of (rest ++ r.extra) ++ r.torn)
             ∙ ap (λ (l : List ℕ). old ++ l) (sym (append_assoc (entries_of new) (entries_of (rest ++ r.extra)) r.torn))
             ∙ ap (λ (l : List ℕ). old ++ (l ++ r.torn)) (sym (entries_join new (rest ++ r.extra)))
             ∙ ap (λ (l : List Record). old ++ (entries_of l ++ r.torn)) (sym (append_assoc new rest r.extra)) in
@@ -191,15 +194,21 @@ module _ {D : Type 0} (bytes : D → Option (List ℕ)) (held faults : D → ℕ
   ]
 
 -- Over a fresh engine.
-served_more : {D : Type 0} (bytes : D → Option (List ℕ)) (held faults : D → ℕ) (appends : D → List ℕ → Bool → D → Type 0) (looks : D → D → Type 0) (xs : List (StoreAsk × StoreOut)) (a c : EngineValue D) → Steps bytes held faults appends looks xs a c
-    → (c.served ≡ a.served ++ map (λ x. x.0) xs) × (c.finished ≡ a.finished ++ outs (length a.served) xs) × (c.base ≡ a.base)
+served_more : {D : Type 0} (bytes : D → Option (List ℕ)) (held faults : D → ℕ)
+    (appends : D → List ℕ → Bool → D → Type 0) (looks : D → D → Type 0) (xs : List (StoreAsk × StoreOut))
+    (a c : EngineValue D) → Steps bytes held faults appends looks xs a c
+    → (c.served ≡ a.served ++ map (λ x. x.0) xs) × (c.finished ≡ a.finished ++ outs (length a.served) xs) ×
+    (c.base ≡ a.base)
 served_more bytes held faults appends looks [] a c same = (ap (λ v. v.served) same ∙ sym (append-nil a.served), ap (λ v. v.finished) same ∙ sym (append-nil a.finished), ap (λ v. v.base) same)
 served_more bytes held faults appends looks (x ∷ xs) a c steps =
     let rest = served_more bytes held faults appends looks xs steps.0 c steps.2 in
     let s = steps.1 in
-    let long : length steps.0.served ≡ length a.served + 1 = ap length s.served ∙ length-append a.served (x.0 ∷ []) in (
-      rest.0 ∙ ap (λ (l : List StoreAsk). l ++ map (λ x. x.0) xs) s.served ∙ append_assoc a.served (x.0 ∷ []) (map (λ x. x.0) xs),
-      rest.1 ∙ ap (λ (l : List (ℕ × StoreOut)). l ++ outs (length steps.0.served) xs) s.finished ∙ append_assoc a.finished ((length a.served, x.1) ∷ []) (outs (length steps.0.served) xs)
+    let long : length steps.0.served ≡ length a.served + 1 = ap length s.served
+    ∙ length-append a.served (x.0 ∷ []) in (
+      rest.0 ∙ ap (λ (l : List StoreAsk). l ++ map (λ x. x.0) xs) s.served
+          ∙ append_assoc a.served (x.0 ∷ []) (map (λ x. x.0) xs),
+      rest.1 ∙ ap (λ (l : List (ℕ × StoreOut)). l ++ outs (length steps.0.served) xs) s.finished
+          ∙ append_assoc a.finished ((length a.served, x.1) ∷ []) (outs (length steps.0.served) xs)
           ∙ ap (λ n. a.finished ++ (length a.served, x.1) ∷ outs n xs) long,
       rest.2 ∙ s.base,
     )
@@ -244,7 +253,8 @@ pub record Fresh {D : Type 0} (bytes : D → Option (List ℕ)) (held faults : D
   pub asks : asks_in did ≡ asked_in c.served
   pub each : SaidEach c.base.limit (struck_at t) 0 (opened c.base.records) did
 
-fresh : {D : Type 0} (bytes : D → Option (List ℕ)) (held faults : D → ℕ) (appends : D → List ℕ → Bool → D → Type 0) (looks : D → D → Type 0) (a c : EngineValue D) (seat : DeviceValue StoreAsk StoreTold StoreBasis)
+fresh : {D : Type 0} (bytes : D → Option (List ℕ)) (held faults : D → ℕ) (appends : D → List ℕ → Bool → D → Type 0)
+    (looks : D → D → Type 0) (a c : EngineValue D) (seat : DeviceValue StoreAsk StoreTold StoreBasis)
     → a.served ≡ [] → a.finished ≡ [] → GoesTo bytes held faults appends looks a c
     → Agrees told_of (Admits c.base) c.served c.finished seat
     → Fresh bytes held faults appends looks a c (trail told_of c.finished)
@@ -252,7 +262,8 @@ fresh bytes held faults appends looks a c seat none not goes agrees =
     let xs = goes.0 in
     let m = served_more bytes held faults appends looks xs a c goes.1 in
     let served : c.served ≡ map (λ x. x.0) xs = m.0 ∙ ap (λ (l : List StoreAsk). l ++ map (λ x. x.0) xs) none in
-    let finished : c.finished ≡ outs 0 xs = m.1 ∙ ap (λ (l : List (ℕ × StoreOut)). l ++ outs (length a.served) xs) not ∙ ap (λ (l : List StoreAsk). outs (length l) xs) none in
+    let finished : c.finished ≡ outs 0 xs = m.1 ∙ ap (λ (l : List (ℕ × StoreOut)). l ++ outs (length a.served) xs) not
+    ∙ ap (λ (l : List StoreAsk). outs (length l) xs) none in
     let t : List (ℕ × StoreTold) = trail told_of c.finished in
     record {
       did = xs;
@@ -261,7 +272,9 @@ fresh bytes held faults appends looks a c seat none not goes agrees =
       each = said_each c.base c.served t xs 0 (opened c.base.records) refl (subst (Each (IsAdmitted c.base c.served t)) finished agrees.admitted) (λ i d e. (let n : 0 + i ≡ i = omega arith in ap (slice_get c.served) n ∙ ap (λ (l : List StoreAsk). slice_get l i) served ∙ e));
     }
 
-pub log_ends : {D : Type 0} (bytes : D → Option (List ℕ)) (held faults : D → ℕ) (appends : D → List ℕ → Bool → D → Type 0) (looks : D → D → Type 0) (a c : EngineValue D) (seat : DeviceValue StoreAsk StoreTold StoreBasis) (old : List ℕ)
+pub log_ends : {D : Type 0} (bytes : D → Option (List ℕ)) (held faults : D → ℕ)
+    (appends : D → List ℕ → Bool → D → Type 0) (looks : D → D → Type 0) (a c : EngineValue D)
+    (seat : DeviceValue StoreAsk StoreTold StoreBasis) (old : List ℕ)
     → a.served ≡ [] → a.finished ≡ [] → bytes a.core.log.disk ≡ Some old → GoesTo bytes held faults appends looks a c
     → Agrees told_of (Admits c.base) c.served c.finished seat
     → (now : List ℕ) × (records : List Record) × (bytes c.core.log.disk ≡ Some now) × LogEnds c.base c.served seat.trail old now records
@@ -278,8 +291,10 @@ log_ends bytes held faults appends looks a c seat old none not h goes agrees =
     let left = left_is end.fault all r.extra r.torn (subst (λ (l : List Ask). Leaves (standing_from b.limit (struck_at t) 0 (opened b.records) l).fault 0 l r.extra r.torn) asks r.left) in
     let records : List Record = end.records ++ r.extra in
     let adds : records ≡ b.records ++ (stored ++ r.extra) = ap (λ (l : List Record). l ++ r.extra) (history_adds b.limit (struck_at t) 0 (opened b.records) all) ∙ append_assoc b.records stored r.extra in
-    let new : drop (length b.records) records ≡ stored ++ r.extra = ap (drop (length b.records)) adds ∙ drop-append_seam b.records (stored ++ r.extra) in
-    let final : standing_at_end b c.served seat.trail ≡ end = ap (standing_at_end b c.served) agrees.tells ∙ end_is b c.served t in
+    let new : drop (length b.records) records ≡ stored ++ r.extra = ap (drop (length b.records)) adds
+    ∙ drop-append_seam b.records (stored ++ r.extra) in
+    let final : standing_at_end b c.served seat.trail ≡ end = ap (standing_at_end b c.served) agrees.tells
+    ∙ end_is b c.served t in
     let text : List ℕ = old ++ (entries_of (stored ++ r.extra) ++ r.torn) in (
       text,
       records,
@@ -297,7 +312,9 @@ log_ends bytes held faults appends looks a c seat old none not h goes agrees =
       },
     )
 
-pub log_rose : {D : Type 0} (bytes : D → Option (List ℕ)) (held faults : D → ℕ) (appends : D → List ℕ → Bool → D → Type 0) (looks : D → D → Type 0) (a c : EngineValue D) (seat : DeviceValue StoreAsk StoreTold StoreBasis) (p : ℕ)
+pub log_rose : {D : Type 0} (bytes : D → Option (List ℕ)) (held faults : D → ℕ)
+    (appends : D → List ℕ → Bool → D → Type 0) (looks : D → D → Type 0) (a c : EngineValue D)
+    (seat : DeviceValue StoreAsk StoreTold StoreBasis) (p : ℕ)
     → a.served ≡ [] → a.finished ≡ [] → GoesTo bytes held faults appends looks a c
     → Agrees told_of (Admits c.base) c.served c.finished seat
     → (standing_at_end c.base c.served seat.trail).fault ≡ Some p
@@ -306,23 +323,32 @@ log_rose bytes held faults appends looks a c seat p none not goes agrees h =
     let t : List (ℕ × StoreTold) = trail told_of c.finished in
     let g = fresh bytes held faults appends looks a c seat none not goes agrees in
     let final : standing_at_end c.base c.served seat.trail ≡ standing_from c.base.limit (struck_at t) 0 (opened c.base.records) (asks_in g.did) =
-    ap (standing_at_end c.base c.served) agrees.tells ∙ end_is c.base c.served t ∙ ap (standing_from c.base.limit (struck_at t) 0 (opened c.base.records)) (sym g.asks) in
+    ap (standing_at_end c.base c.served) agrees.tells ∙ end_is c.base c.served t
+    ∙ ap (standing_from c.base.limit (struck_at t) 0 (opened c.base.records)) (sym g.asks) in
     rose_run bytes held faults appends looks c.base.limit (struck_at t) g.did 0 p (opened c.base.records) a c g.steps g.each refl (ap (λ (z : Standing). z.fault) (sym final) ∙ h)
 
 same_entries : (records : List Record) → flat_map entry (map payload records) ≡ entries_of records
 same_entries [] = refl
 same_entries (r ∷ records) = ap (λ (l : List ℕ). entry (payload r) ++ l) (same_entries records)
 
-pub log_text_is : (b : StoreBasis) (history : List StoreAsk) (trail : List (ℕ × StoreTold)) (old bytes : List ℕ) (records : List Record) → (e : LogEnds b history trail old bytes records) → old ≡ log_of b.records → bytes ≡ log_of records ++ e.torn
+pub log_text_is : (b : StoreBasis) (history : List StoreAsk) (trail : List (ℕ × StoreTold)) (old bytes : List ℕ)
+    (records : List Record) → (e : LogEnds b history trail old bytes records) → old ≡ log_of b.records
+    → bytes ≡ log_of records ++ e.torn
 log_text_is b history trail old bytes records e is =
     let end : Standing = standing_from b.limit (struck_at trail) 0 (opened b.records) (asked_in history) in
     let stored : List Record = stored_from b.limit (struck_at trail) 0 (opened b.records) (asked_in history) in
     let more : List Record = stored ++ e.logged.extra in
     let all : records ≡ b.records ++ more =
-    e.logged.all ∙ ap (λ (z : Standing). z.records ++ e.logged.extra) (end_is b history trail) ∙ ap (λ (l : List Record). l ++ e.logged.extra) (history_adds b.limit (struck_at trail) 0 (opened b.records) (asked_in history)) ∙ append_assoc b.records stored e.logged.extra in
-    let new : drop (length b.records) records ≡ more = ap (drop (length b.records)) all ∙ drop-append_seam b.records more in
-    let before : old ≡ header ++ entries_of b.records = is ∙ ap (λ (l : List ℕ). header ++ l) (same_entries b.records) in
+    e.logged.all ∙ ap (λ (z : Standing). z.records ++ e.logged.extra) (end_is b history trail)
+    ∙ ap (λ (l : List Record). l ++ e.logged.extra) (history_adds b.limit (struck_at trail) 0 (opened b.records) (asked_in history)) ∙ append_assoc b.records stored e.logged.extra in
+    let new : drop (length b.records) records ≡ more = ap (drop (length b.records)) all
+    ∙ drop-append_seam b.records more in
+    let before : old ≡ header ++ entries_of b.records = is
+    ∙ ap (λ (l : List ℕ). header ++ l) (same_entries b.records) in
     let whole : log_of records ≡ header ++ (entries_of b.records ++ entries_of more) = ap (λ (l : List ℕ). header ++ l) (same_entries records ∙ ap entries_of all ∙ entries_join b.records more) in
-    e.text ∙ ap (λ (l : List Record). old ++ (entries_of l ++ e.torn)) new ∙ ap (λ (l : List ℕ). l ++ (entries_of more ++ e.torn)) before
-    ∙ append_assoc header (entries_of b.records) (entries_of more ++ e.torn) ∙ ap (λ (l : List ℕ). header ++ l) (sym (append_assoc (entries_of b.records) (entries_of more) e.torn))
-    ∙ sym (append_assoc header (entries_of b.records ++ entries_of more) e.torn) ∙ ap (λ (l : List ℕ). l ++ e.torn) (sym whole)
+    e.text ∙ ap (λ (l : List Record). old ++ (entries_of l ++ e.torn)) new
+    ∙ ap (λ (l : List ℕ). l ++ (entries_of more ++ e.torn)) before
+    ∙ append_assoc header (entries_of b.records) (entries_of more ++ e.torn)
+    ∙ ap (λ (l : List ℕ). header ++ l) (sym (append_assoc (entries_of b.records) (entries_of more) e.torn))
+    ∙ sym (append_assoc header (entries_of b.records ++ entries_of more) e.torn)
+    ∙ ap (λ (l : List ℕ). l ++ e.torn) (sym whole)

@@ -34,7 +34,8 @@ only_link [] h = refl
 only_link (d ∷ draws) h =
     let link = h.0 in
     let test : (d.link == 0) ≡ true = grind (arith, nat_tests) in
-    ap (λ (c : Bool). cond c (d ∷ of_link 0 draws) (of_link 0 draws)) test ∙ ap (λ (l : List Draw). d ∷ l) (only_link draws h.1)
+    ap (λ (c : Bool). cond c (d ∷ of_link 0 draws) (of_link 0 draws)) test
+    ∙ ap (λ (l : List Draw). d ∷ l) (only_link draws h.1)
 
 first_of : {X : Type 0} (x y : X) (i : ℕ) → slice_get (x ∷ []) i ≡ Some y → (i ≡ 0) × (x ≡ y)
 first_of x y zero e = (refl, some_is e)
@@ -63,7 +64,8 @@ module _ (b : StoreBasis) (end : Trail StoreAsk StoreTold) (history : List Store
       let s = speaking b end history (w ∷ []) (k ∷ []) run (t ∷ []) ends 0 k refl in
       let worker = first_of w s.worker k.worker s.here in
       let links : AllByRecursion (λ d. d.link ≡ 0) w.draws = all_by (λ d. d.link ≡ 0) w.draws (λ i d e. (let own = all_at (IsForOwn (k ∷ []) 0) w.draws i d ends.own.0 e in (first_of k own.0 d.link own.1).0)) in
-      let own : of_link 0 w.draws ≡ numbered 0 0 k.drawn = ap (λ (x : Worker). of_link 0 x.draws) worker.1 ∙ s.keeps.own in
+      let own : of_link 0 w.draws ≡ numbered 0 0 k.drawn = ap (λ (x : Worker). of_link 0 x.draws) worker.1
+      ∙ s.keeps.own in
       record {
         draws = sym (only_link w.draws links) ∙ own;
         zero_is = worker.0;
@@ -73,7 +75,8 @@ module _ (b : StoreBasis) (end : Trail StoreAsk StoreTold) (history : List Store
   all_said : asked_by (says history) ≡ asked_with 1 (numbered 0 0 k.drawn) ++ stops
   all_said =
       let worker = ends.closed.passes.0.0 in
-      let alone : submitted_by w ≡ says history = ap (λ (l : List (ℕ × (ℕ × StoreAsk))). map (λ x. x.1.1) l) worker ∙ of_only_pass history 0 only in
+      let alone : submitted_by w ≡ says history = ap (λ (l : List (ℕ × (ℕ × StoreAsk))). map (λ x. x.1.1) l) worker
+      ∙ of_only_pass history 0 only in
       ap asked_by (sym alone) ∙ asked.asked ∙ ap (λ (l : List Draw). asked_with 1 l ++ stops) speaks.draws
 
   wanted : asked_in (says history) ≡ wants (asked_with 1 (numbered 0 0 k.drawn) ++ stops)
@@ -93,10 +96,12 @@ module _ (b : StoreBasis) (end : Trail StoreAsk StoreTold) (history : List Store
       number j s e l = omega (arith, e)
 
   stands : SaidFrom b history end.told only acc.rises stops 0 (asked_with 1 (numbered 0 0 k.drawn) ++ stops)
-  stands j x e = let n : j ≡ 0 + j = omega arith in ap (slice_get (asked_by (says history))) (sym n) ∙ ap (λ (l : List Numbered). slice_get l j) all_said ∙ e
+  stands j x e = let n : j ≡ 0 + j = omega arith in ap (slice_get (asked_by (says history))) (sym n)
+      ∙ ap (λ (l : List Numbered). slice_get l j) all_said ∙ e
 
   pub serial_replies : t.replies ≡ take (length t.replies) (serial_from 0 b.records b.limit t.asks).replies
-  serial_replies = in_order b history end.told only acc.rises stops 0 0 k.drawn talk.1.0 t.replies stands from ∙ ap (λ (l : List Asked). take (length t.replies) (serial_from 0 b.records b.limit l).replies) (sym talk.1.1)
+  serial_replies = in_order b history end.told only acc.rises stops 0 0 k.drawn talk.1.0 t.replies stands from
+      ∙ ap (λ (l : List Asked). take (length t.replies) (serial_from 0 b.records b.limit l).replies) (sym talk.1.1)
 
   pub serial_all : length t.replies ≡ length t.asks → t.replies ≡ (serial_from 0 b.records b.limit t.asks).replies
   serial_all even = serial_replies ∙ take_all (length t.replies) (serial_from 0 b.records b.limit t.asks).replies (shorter (as_long 0 b.records t.asks))
@@ -112,7 +117,8 @@ module _ (b : StoreBasis) (end : Trail StoreAsk StoreTold) (history : List Store
   all_are : run.records ≡ (standing_from b.limit (struck_at end.told) 0 (opened b.records) (asked_in (says history))).records ++ ends.logged.extra
   all_are = ends.logged.all ∙ ap (λ (x : Standing). x.records ++ ends.logged.extra) (end_is b (says history) end.told)
 
-  left_is : IsLeft (standing_from b.limit (struck_at end.told) 0 (opened b.records) (asked_in (says history))).fault (asked_in (says history)) ends.logged.extra
+  left_is : IsLeft (standing_from b.limit (struck_at end.told) 0 (opened b.records) (asked_in (says history))).fault
+      (asked_in (says history)) ends.logged.extra
   left_is = subst (λ (x : Standing). IsLeft x.fault (asked_in (says history)) ends.logged.extra) (end_is b (says history) end.told) ends.logged.left
 
   pub serial_records : ends.logged.extra ≡ [] → length t.replies ≡ length k.drawn
@@ -120,11 +126,13 @@ module _ (b : StoreBasis) (end : Trail StoreAsk StoreTold) (history : List Store
   serial_records none even =
       let asks : List Ask = asked_in (says history) in
       let are_stops = asked.are_stops in
-      let drawn : take (length t.replies) t.asks ≡ k.drawn = ap (λ n. take n t.asks) even ∙ ap (take (length k.drawn)) talk.1.1 ∙ take-append_seam k.drawn talk.1.0 in
+      let drawn : take (length t.replies) t.asks ≡ k.drawn = ap (λ n. take n t.asks) even
+      ∙ ap (take (length k.drawn)) talk.1.1 ∙ take-append_seam k.drawn talk.1.0 in
       let order = records_in_order b history end.told only acc.rises stops are_stops 0 0 k.drawn t.replies wanted stands from even in
       let all : run.records ≡ b.records ++ (serial_from 0 b.records b.limit k.drawn).records =
       all_are ∙ ap (λ (l : List Record). (standing_from b.limit (struck_at end.told) 0 (opened b.records) asks).records ++ l) none ∙ append-nil _ ∙ order in
-      ap (λ n. drop n run.records) (sym ends.old) ∙ ap (drop (length b.records)) all ∙ drop-append_seam b.records (serial_from 0 b.records b.limit k.drawn).records
+      ap (λ n. drop n run.records) (sym ends.old) ∙ ap (drop (length b.records)) all
+      ∙ drop-append_seam b.records (serial_from 0 b.records b.limit k.drawn).records
       ∙ ap (λ (l : List Asked). (serial_from 0 b.records b.limit l).records) (sym drawn)
 
   long_enough : (i : ℕ) (qs : List Asked) (rs : List Reply)
@@ -153,20 +161,24 @@ module _ (b : StoreBasis) (end : Trail StoreAsk StoreTold) (history : List Store
   last = standing_from b.limit struck 0 (opened b.records) of_all
 
   new_are : (records : List Record) → run.records ≡ b.records ++ records → drop run.old run.records ≡ records
-  new_are records all = ap (λ n. drop n run.records) (sym ends.old) ∙ ap (drop (length b.records)) all ∙ drop-append_seam b.records records
+  new_are records all = ap (λ n. drop n run.records) (sym ends.old) ∙ ap (drop (length b.records)) all
+      ∙ drop-append_seam b.records records
 
   in_front : length (take (length t.replies) k.drawn) ≡ length t.replies
   in_front = length-take-le (length t.replies) k.drawn (long_enough 0 k.drawn t.replies from)
 
   asked_front : take (length t.replies) t.asks ≡ front
-  asked_front = ap (take (length t.replies)) talk.1.1 ∙ take-append-le (length t.replies) k.drawn talk.1.0 (long_enough 0 k.drawn t.replies from)
+  asked_front = ap (take (length t.replies)) talk.1.1
+      ∙ take-append-le (length t.replies) k.drawn talk.1.0 (long_enough 0 k.drawn t.replies from)
 
   asked_more : (q : Asked) → drop (length t.replies) k.drawn ≡ q ∷ []
       → take (length t.replies + 1) t.asks ≡ front ++ q ∷ []
   asked_more q e =
-      let whole : t.asks ≡ (front ++ q ∷ []) ++ talk.1.0 = talk.1.1 ∙ ap (λ (l : List Asked). l ++ talk.1.0) (sym (take-append-drop (length t.replies) k.drawn) ∙ ap (λ (l : List Asked). front ++ l) e) in
+      let whole : t.asks ≡ (front ++ q ∷ []) ++ talk.1.0 = talk.1.1
+      ∙ ap (λ (l : List Asked). l ++ talk.1.0) (sym (take-append-drop (length t.replies) k.drawn) ∙ ap (λ (l : List Asked). front ++ l) e) in
       let long : length t.replies + 1 ≡ length (front ++ q ∷ []) = sym (length-append front (q ∷ []) ∙ ap (λ n. n + 1) in_front) in
-      ap (λ n. take n t.asks) long ∙ ap (take (length (front ++ q ∷ []))) whole ∙ take-append_seam (front ++ q ∷ []) talk.1.0
+      ap (λ n. take n t.asks) long ∙ ap (take (length (front ++ q ∷ []))) whole
+      ∙ take-append_seam (front ++ q ∷ []) talk.1.0
 
   abbrev pub Same : Type 0
   Same = drop run.old run.records ≡ (serial_from 0 b.records b.limit (take (length t.replies) t.asks)).records
@@ -175,7 +187,8 @@ module _ (b : StoreBasis) (end : Trail StoreAsk StoreTold) (history : List Store
   More = drop run.old run.records ≡ (serial_from 0 b.records b.limit (take (length t.replies + 1) t.asks)).records
 
   same_by : run.records ≡ b.records ++ (serial_from 0 b.records b.limit front).records → Same
-  same_by all = new_are (serial_from 0 b.records b.limit front).records all ∙ ap (λ (l : List Asked). (serial_from 0 b.records b.limit l).records) (sym asked_front)
+  same_by all = new_are (serial_from 0 b.records b.limit front).records all
+      ∙ ap (λ (l : List Asked). (serial_from 0 b.records b.limit l).records) (sym asked_front)
 
   no_extra : last.fault ≡ None → (extra : List Record) → IsLeft last.fault of_all extra → extra ≡ []
   no_extra calm extra (inl none) = none
@@ -197,7 +210,8 @@ module _ (b : StoreBasis) (end : Trail StoreAsk StoreTold) (history : List Store
   here_at p = stand b history end.told only acc.rises stops are_stops p
 
   last_is : (p : ℕ) → last ≡ standing_from b.limit struck (0 + length (take p of_all)) (here_at p) (drop p of_all)
-  last_is p = ap (standing_from b.limit struck 0 (opened b.records)) (sym (take-append-drop p of_all)) ∙ history_join b.limit struck 0 (opened b.records) (take p of_all) (drop p of_all)
+  last_is p = ap (standing_from b.limit struck 0 (opened b.records)) (sym (take-append-drop p of_all))
+      ∙ history_join b.limit struck 0 (opened b.records) (take p of_all) (drop p of_all)
 
   -- no further ask
   ends_calm : (p : ℕ) → (here_at p).records ≡ b.records ++ (serial_from 0 b.records b.limit front).records
@@ -231,10 +245,12 @@ module _ (b : StoreBasis) (end : Trail StoreAsk StoreTold) (history : List Store
           zero_less n p e = omega (arith, e)
 
       final_records : last.records ≡ next.records
-      final_records = ap (λ (x : Standing). x.records) final ∙ stops_keep b.limit struck (0 + length (take p of_all) + 1) next stops are_stops
+      final_records = ap (λ (x : Standing). x.records) final
+          ∙ stops_keep b.limit struck (0 + length (take p of_all) + 1) next stops are_stops
 
       final_fault : last.fault ≡ next.fault
-      final_fault = ap (λ (x : Standing). x.fault) final ∙ stops_calm b.limit struck (0 + length (take p of_all) + 1) next stops are_stops
+      final_fault = ap (λ (x : Standing). x.fault) final
+          ∙ stops_calm b.limit struck (0 + length (take p of_all) + 1) next stops are_stops
 
       new : List Record
       new = added s.records b.limit 0 (0 + length front) q

@@ -93,7 +93,8 @@ module _ (b : StoreBasis) (history : List StoreEntry) (trail : List (ℕ × Stor
       let my_number : x.0.1.1.sequence ≡ i + 1 = ap (λ (z : Numbered). z.sequence) x.2 in
       let place : y.place ≡ p = one_place y.place p y.entry x.0 y.here x.1 (subst IsNoStop (sym y.is) (is_request 0 i q ask is)) (subst IsNoStop (sym mine) (is_request 0 i q ask is)) (y.sequence ∙ number ∙ sym my_number) in (
         asked_at (says history) p x.0.1.1 (says_at history p x.0 x.1) ∙ ap Some mine,
-        ap (λ m. storeresult b.limit b.records (struck_at trail) (asked_in (says history)) m ask) (sym place) ∙ y.said,
+        ap (λ m. storeresult b.limit b.records (struck_at trail) (asked_in (says history)) m ask) (sym place)
+            ∙ y.said,
       )
 
   pub asked_step : (i p : ℕ) (q : Asked) (r : Reply) (ask : Ask) → ask_of 0 i q ≡ Some ask
@@ -125,7 +126,8 @@ module _ (b : StoreBasis) (history : List StoreEntry) (trail : List (ℕ × Stor
     where
       first : (a : Answer) → r.answer ≡ a → (records more : List Record) → more ≡ records
           → rs ≡ take (length rs) (serial_from (i + 1) more b.limit (qs ++ beyond)).replies
-          → r ∷ rs ≡ record { worker = 0; sequence = i + 1; answer = a } ∷ take (length rs) (serial_from (i + 1) records b.limit (qs ++ beyond)).replies
+          → r ∷ rs ≡ record { worker = 0; sequence = i + 1; answer = a } ∷ take (length rs)
+          (serial_from (i + 1) records b.limit (qs ++ beyond)).replies
       first a e records more same rest = λ j. reply_is i r a h.0 h.1 e j ∷ (rest ∙ ap (λ (l : List Record). take (length rs) (serial_from (i + 1) l b.limit (qs ++ beyond)).replies) same) j
 
       go : (o : Option Ask) → ask_of 0 i q ≡ o

@@ -27,7 +27,8 @@ same_bytes : (sga back : List HalfValue) → AllSame sga back → bytes_of back 
 same_bytes [] [] h = refl
 same_bytes [] (y ∷ back) h = absurd h
 same_bytes (x ∷ sga) [] h = absurd h
-same_bytes (x ∷ sga) (y ∷ back) h = ap (λ (l : List ℕ). l ++ bytes_of back) h.1 ∙ ap (λ (l : List ℕ). x.bytes ++ l) (same_bytes sga back h.2)
+same_bytes (x ∷ sga) (y ∷ back) h = ap (λ (l : List ℕ). l ++ bytes_of back) h.1
+    ∙ ap (λ (l : List ℕ). x.bytes ++ l) (same_bytes sga back h.2)
 
 -- the operation is a put of this value
 abbrev HasValue : StoreOp → List ℕ → Type 0
@@ -55,7 +56,8 @@ stored_value limit place s k op.Stop v value h = go s.stop h
 stored_back : (o : StoreOp) (back : Back) (v : ℕ) (value : List ℕ) (a : Answer) → HasValue o value
     → BackIs true (Told (Stored v value)) o back → answer_with (said.Stored v) back ≡ Some a
     → Told (Stored v value) ≡ Told a
-stored_back (op.Put link index key None) Nothing v value a has b e = ap (λ (l : List ℕ). Told (Stored v l)) has ∙ ap Told (some_is e)
+stored_back (op.Put link index key None) Nothing v value a has b e = ap (λ (l : List ℕ). Told (Stored v l)) has
+    ∙ ap Told (some_is e)
   where
     some_is : {x y : Answer} → Some x ≡ Some y → x ≡ y
     some_is e = cc
@@ -77,7 +79,8 @@ found_back o Nothing v value a b e = absurd (cc)
 found_back o (Value back) v value a b e = absurd (cc)
 found_back (op.Put link index key None) (Room back) v value a b e = absurd b
 found_back (op.Put link index key (Some sga)) (Room back) v value a b e = absurd b
-found_back (op.Get key room) (Room back) v value a b e = ap (λ (l : List ℕ). Told (Found v l)) (sym b.1) ∙ ap Told (some_is e)
+found_back (op.Get key room) (Room back) v value a b e = ap (λ (l : List ℕ). Told (Found v l)) (sym b.1)
+    ∙ ap Told (some_is e)
   where
     some_is : {x y : Answer} → Some x ≡ Some y → x ≡ y
     some_is e = cc
@@ -117,7 +120,8 @@ told_back Halted o answer back a has is b e = absurd (none (ap (λ (x : StoreAns
     none : {a : Answer} → None ≡ Some a → ⊥
     none e = absurd (cc)
 
-pub outcome_said : (b : StoreBasis) (h : List StoreAsk) (t : List (ℕ × StoreTold)) (p : ℕ) (out : StoreOut) (a : Answer) → b.told ≡ true → Admits b h t p out → reply_for out ≡ Some a → IsSaid b h t p (Told a)
+pub outcome_said : (b : StoreBasis) (h : List StoreAsk) (t : List (ℕ × StoreTold)) (p : ℕ) (out : StoreOut)
+    (a : Answer) → b.told ≡ true → Admits b h t p out → reply_for out ≡ Some a → IsSaid b h t p (Told a)
 outcome_said b h t p out a told is e =
     let s : Said = said_to b h t p is.0 in
     let back : BackIs true s is.0.op out.back = subst (λ c. BackIs c s is.0.op out.back) told is.2.1 in

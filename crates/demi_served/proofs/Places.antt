@@ -41,7 +41,9 @@ put_step limit place link index s q (Some ByMemory) a h = go (nat_le limit (leng
     go true h = (sym (told_is h), refl)
     go false h = absurd (cc)
 
-open_step : (limit place link index : ℕ) (s : Standing) (q : Asked) (ask : Ask) (k : Option StoreTold) (fault : Option ℕ) (a : Answer) → ask_of link index q ≡ Some ask → (said_open limit place s ask k fault).0 ≡ Told a
+open_step : (limit place link index : ℕ) (s : Standing) (q : Asked) (ask : Ask) (k : Option StoreTold)
+    (fault : Option ℕ) (a : Answer) → ask_of link index q ≡ Some ask
+    → (said_open limit place s ask k fault).0 ≡ Told a
     → IsStep s limit link index q a (said_open limit place s ask k fault).1
 open_step limit place link index s (Request_of (Put key value)) ask k fault a is h =
     subst (λ (x : Ask). (said_open limit place s x k fault).0 ≡ Told a → IsStep s limit link index (Request_of (Put key value)) a (said_open limit place s x k fault).1) (some_is is) (go fault) h
@@ -65,7 +67,8 @@ open_step limit place link index s (Request_of (Get key)) ask k fault a is h =
 open_step limit place link index s (Request_of End) ask k fault a is h = absurd (cc)
 open_step limit place link index s (Refused_end code) ask k fault a is h = absurd (cc)
 
-pub told_step : (limit place link index : ℕ) (s : Standing) (q : Asked) (ask : Ask) (k : Option StoreTold) (a : Answer) → ask_of link index q ≡ Some ask → (said_at limit place s ask k).0 ≡ Told a
+pub told_step : (limit place link index : ℕ) (s : Standing) (q : Asked) (ask : Ask) (k : Option StoreTold)
+    (a : Answer) → ask_of link index q ≡ Some ask → (said_at limit place s ask k).0 ≡ Told a
     → IsStep s limit link index q a (said_at limit place s ask k).1
 told_step limit place link index s q ask k a is h = go s.stop h
   where
@@ -84,12 +87,14 @@ module _ (limit : ℕ) (struck : ℕ → Option StoreTold) (old : List Record) (
   below_next p ask e =
       let t = parted asks p ask e in
       let n : 0 + length (take p asks) ≡ p = omega (arith, t.long) in
-      ap (standing_from limit struck 0 (opened old)) t.next ∙ history_join limit struck 0 (opened old) (take p asks) (ask ∷ [])
+      ap (standing_from limit struck 0 (opened old)) t.next
+      ∙ history_join limit struck 0 (opened old) (take p asks) (ask ∷ [])
       ∙ ap (λ (m : ℕ). (said_at limit m (below p) ask (struck m)).1) n
 
   pub below_grows : (p q : ℕ) → p ≤ q → Grows (below p).records (below q).records
   below_grows p q le =
-      let whole : take q asks ≡ take p asks ++ drop p (take q asks) = sym (take-append-drop p (take q asks)) ∙ ap (λ (l : List Ask). l ++ drop p (take q asks)) (take-take p q asks le) in
+      let whole : take q asks ≡ take p asks ++ drop p (take q asks) = sym (take-append-drop p (take q asks))
+      ∙ ap (λ (l : List Ask). l ++ drop p (take q asks)) (take-take p q asks le) in
       let g = history_grows limit struck (0 + length (take p asks)) (below p) (drop p (take q asks)) in
       (g.0, ap (λ (x : Standing). x.records) (ap (standing_from limit struck 0 (opened old)) whole ∙ history_join limit struck 0 (opened old) (take p asks) (drop p (take q asks))) ∙ g.1)
 
@@ -119,7 +124,8 @@ module _ (limit : ℕ) (struck : ℕ → Option StoreTold) (old : List Record) (
       let n = named_at p l i x a h in
       let o = named_at q m j y b k in
       let g = below_grows (p + 1) q (omega arith) in
-      let long : length (below q).records ≡ length (below (p + 1)).records + length g.0 = ap length g.1 ∙ length-append (below (p + 1)).records g.0 in
+      let long : length (below q).records ≡ length (below (p + 1)).records + length g.0 = ap length g.1
+      ∙ length-append (below (p + 1)).records g.0 in
       meet (is_stored b) (version_of a) (version_of b) (length (below (p + 1)).records) (length (below q).records) (length (below (q + 1)).records) n.most (omega arith) o.least o.above
     where
       meet : (strict : Bool) (o p : Option ℕ) (n m e : ℕ) → IfSome o (λ v. v ≤ n) → n ≤ m → IfSome p (λ w. m ≤ w)
@@ -137,7 +143,8 @@ module _ (limit : ℕ) (struck : ℕ → Option StoreTold) (old : List Record) (
   answers_by_place run extra p link index q a is_old is_limit all t =
       let s = step_at p link index q a t in
       let base = history_grows limit struck 0 (opened old) (take p asks) in
-      let long : length (below p).records ≡ length old + length base.0 = ap length base.1 ∙ length-append old base.0 in
+      let long : length (below p).records ≡ length old + length base.0 = ap length base.1
+      ∙ length-append old base.0 in
       let grown = below_grows (p + 1) (length asks + (p + 1)) (omega arith) in
       let whole : take (length asks + (p + 1)) asks ≡ asks = take_all (length asks + (p + 1)) asks (omega arith) in
       let now : List Record = (below p).records ++ added (below p).records limit link index q in

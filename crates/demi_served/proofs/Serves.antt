@@ -209,7 +209,8 @@ module _ (b : StoreBasis) (history : List StoreEntry) (trail : List (ℕ × Stor
     }
 
     -- the new records
-    new_records : drop run.old run.records ≡ stored_from b.limit (struck_at trail) 0 (opened b.records) asks ++ acc.logged.extra
+    new_records : drop run.old run.records ≡ stored_from b.limit (struck_at trail) 0
+        (opened b.records) asks ++ acc.logged.extra
     new_records =
         let stored : List Record = stored_from b.limit (struck_at trail) 0 (opened b.records) asks in
         ap (λ n. drop n run.records) (sym acc.old)

@@ -17,7 +17,9 @@ use Rattle.demi_served.proofs.Closes.{accounted}
 use Rattle.demi_served.proofs.LinkEnds.{torn_all}
 use Rattle.demi_served.proofs.Serves.{consistent, recorded}
 
-pub served : (b : StoreBasis) (end : Trail StoreAsk StoreTold) (history : List StoreEntry) (workers : List Worker) (links : List Link) (run : Run) (talks : List Talk) → StoreEnds b end history workers links run talks → AllZip TornTalk run.links talks → Served run
+pub served : (b : StoreBasis) (end : Trail StoreAsk StoreTold) (history : List StoreEntry) (workers : List Worker)
+    (links : List Link) (run : Run) (talks : List Talk) → StoreEnds b end history workers links run talks
+    → AllZip TornTalk run.links talks → Served run
 served b end history workers links run talks ends torn =
     let a = accounted b end history workers links run talks ends in
     record { talks = talks; read = torn; consistent = consistent b history end.told run talks a; recorded = recorded b history end.told run talks a }
@@ -31,7 +33,9 @@ untorn (l ∷ links) (t ∷ talks) h = (record { asks = h.0.asks; fits = h.0.fit
 pub whole_served : (run : Run) → Whole run → Served run
 whole_served run w = record { talks = w.talks; read = untorn run.links w.talks w.read; consistent = w.consistent; recorded = w.recorded }
 
-pub accounted_served : (b : StoreBasis) (history : List StoreEntry) (trail : List (ℕ × StoreTold)) (ports : List LinkPorts) (workers : ℕ) (memory : List MemEntry) (run : Run) (talks : List Talk) → SessionAccounted b history trail ports workers memory run talks → Served run
+pub accounted_served : (b : StoreBasis) (history : List StoreEntry) (trail : List (ℕ × StoreTold))
+    (ports : List LinkPorts) (workers : ℕ) (memory : List MemEntry) (run : Run) (talks : List Talk)
+    → SessionAccounted b history trail ports workers memory run talks → Served run
 accounted_served b history trail ports workers memory run talks s = record {
   talks = talks;
   read = torn_all run.links ports talks s.links;
@@ -39,7 +43,9 @@ accounted_served b history trail ports workers memory run talks s = record {
   recorded = recorded b history trail run talks s.store;
 }
 
-pub all_accounted : (b : StoreBasis) (end : Trail StoreAsk StoreTold) (history : List StoreEntry) (workers : List Worker) (links : List Link) (ports : List LinkPorts) (memory : List MemEntry) (run : Run) (talks : List Talk) → StoreEnds b end history workers links run talks
+pub all_accounted : (b : StoreBasis) (end : Trail StoreAsk StoreTold) (history : List StoreEntry)
+    (workers : List Worker) (links : List Link) (ports : List LinkPorts) (memory : List MemEntry) (run : Run)
+    (talks : List Talk) → StoreEnds b end history workers links run talks
     → AllEnded run.links ports talks → Shared (length run.links) (length workers) memory
     → SessionAccounted b history end.told ports (length workers) memory run talks
 all_accounted b end history workers links ports memory run talks ends ended shared = record { store = accounted b end history workers links run talks ends; links = ended; sharing = shared }

@@ -32,7 +32,8 @@ was_said b h more t later p o x above was now =
     record {
       asked = was.asked;
       here = was.here;
-      result = sym (said_same b h more t later p was.asked (get_within h p was.asked was.here) above) ∙ ap (λ (s : StoreAsk). said_to b (h ++ more) (t ++ later) p s) same ∙ now.result;
+      result = sym (said_same b h more t later p was.asked (get_within h p was.asked was.here) above)
+          ∙ ap (λ (s : StoreAsk). said_to b (h ++ more) (t ++ later) p s) same ∙ now.result;
     }
 
 pub steady : (b : StoreBasis) (h more : List StoreAsk) (t later : List (ℕ × StoreTold)) (p : ℕ) (o x : Said)

@@ -117,7 +117,8 @@ of_link_append link [] ys = refl
 of_link_append link (d ∷ xs) ys = go (of_link_append link xs ys) (d.link == link)
   where
     go : of_link link (xs ++ ys) ≡ of_link link xs ++ of_link link ys → (c : Bool)
-        → cond c (d ∷ of_link link (xs ++ ys)) (of_link link (xs ++ ys)) ≡ cond c (d ∷ of_link link xs) (of_link link xs) ++ of_link link ys
+        → cond c (d ∷ of_link link (xs ++ ys)) (of_link link (xs ++ ys)) ≡ cond c (d ∷ of_link link xs)
+        (of_link link xs) ++ of_link link ys
     go e true = ap (λ (l : List Draw). d ∷ l) e
     go e false = e
 
@@ -130,7 +131,8 @@ numbered_push link base (x ∷ asks) q =
     ∙ ap (λ m. numbered link (base + 1) asks ++ record { link = link; index = m; request = q } ∷ []) n)
 
 own_push : (w : Worker) (link : ℕ) (asks : List Asked) (q : Asked) → of_link link w.draws ≡ numbered link 0 asks
-    → of_link link (w.draws ++ record { link = link; index = length asks; request = q } ∷ []) ≡ numbered link 0 (asks ++ q ∷ [])
+    → of_link link (w.draws ++ record { link = link; index = length asks; request = q } ∷ []) ≡ numbered link 0
+    (asks ++ q ∷ [])
 own_push w link asks q own =
     let last : Draw = record { link = link; index = length asks; request = q } in
     let same : (link == link) ≡ true = grind (arith, nat_tests) in
@@ -169,7 +171,9 @@ still_replied b v w q r g (Some ask) h =
       },
     )
 
-still_keep : (b : StoreBasis) (v w : Worker) (number link above index : ℕ) (asks more : List Asked) (replies : List Reply) → Grown v w → RepliesKeep b v number link above index asks replies → RepliesKeep b w number link above index (asks ++ more) replies
+still_keep : (b : StoreBasis) (v w : Worker) (number link above index : ℕ) (asks more : List Asked)
+    (replies : List Reply) → Grown v w → RepliesKeep b v number link above index asks replies
+    → RepliesKeep b w number link above index (asks ++ more) replies
 still_keep b v w number link above index asks more [] g h = tt
 still_keep b v w number link above index [] more (r ∷ replies) g h = absurd h
 still_keep b v w number link above index (q ∷ asks) more (r ∷ replies) g h = (
@@ -195,7 +199,9 @@ first_link b w link number h = record { own = no_draws link w.draws h; replied =
 pub link_beside : (b : StoreBasis) (v w : Worker) (link : ℕ) (k : Link) → LinkKeeps b v link k → GoesBeside link v w
     → LinkKeeps b w link k
 link_beside b v w link k h g = record {
-  own = ap (of_link link) g.draws.1 ∙ of_link_append link v.draws g.draws.0 ∙ ap (λ (l : List Draw). of_link link v.draws ++ l) (no_draws link g.draws.0 g.draws.2) ∙ append-nil (of_link link v.draws) ∙ h.own;
+  own = ap (of_link link) g.draws.1 ∙ of_link_append link v.draws g.draws.0
+      ∙ ap (λ (l : List Draw). of_link link v.draws ++ l) (no_draws link g.draws.0 g.draws.2)
+      ∙ append-nil (of_link link v.draws) ∙ h.own;
   replied = same_asks b w k.worker link 0 0 k.drawn k.replies (still_keep b v w k.worker link 0 0 k.drawn [] k.replies (record { submitted = g.submitted; draws = (g.draws.0, g.draws.1); known = g.known }) h.replied);
 }
 
@@ -222,7 +228,8 @@ link_handed b w link k known h behind = record {
 }
 
 -- one more reply behind others, with a number above theirs
-one_more : (b : StoreBasis) (w : Worker) (number link above base : ℕ) (asks : List Asked) (replies : List Reply) (q : Asked) (r : Reply) → RepliesKeep b w number link above base asks replies
+one_more : (b : StoreBasis) (w : Worker) (number link above base : ℕ) (asks : List Asked) (replies : List Reply)
+    (q : Asked) (r : Reply) → RepliesKeep b w number link above base asks replies
     → slice_get asks (length replies) ≡ Some q → r.worker ≡ number → above < r.sequence
     → AllByRecursion (λ s. s.sequence < r.sequence) replies
     → IsDrawn w.draws r.sequence (record { link = link; index = base + length replies; request = q })
@@ -250,7 +257,8 @@ one_more b w number link above base (x ∷ asks) (s ∷ replies) q r h at is up 
     )
 
 -- the numbers of earlier replies are below that of a later index
-earlier : (b : StoreBasis) (w : Worker) (number link above base n : ℕ) (asks : List Asked) (replies : List Reply) (s : ℕ) (q : Asked) → Pairwise IsFurther w.draws → RepliesKeep b w number link above base asks replies
+earlier : (b : StoreBasis) (w : Worker) (number link above base n : ℕ) (asks : List Asked) (replies : List Reply)
+    (s : ℕ) (q : Asked) → Pairwise IsFurther w.draws → RepliesKeep b w number link above base asks replies
     → base + length replies ≤ n → IsDrawn w.draws s (record { link = link; index = n; request = q })
     → AllByRecursion (λ r. r.sequence < s) replies
 earlier b w number link above base n asks [] s q far h le d = tt
@@ -287,7 +295,8 @@ link_replied b w link k q r keeps h at is d a =
     }
 
 -- What a coroutine holds between its polls.
-pub link_answered : (b : StoreBasis) (w : Worker) (known : Trail StoreAsk StoreTold) (q : Asked) (r : Reply) (s : StoreAsk) (p t place : ℕ) → Among (p, (t, s)) w.submitted → s.sequence ≡ r.sequence
+pub link_answered : (b : StoreBasis) (w : Worker) (known : Trail StoreAsk StoreTold) (q : Asked) (r : Reply)
+    (s : StoreAsk) (p t place : ℕ) → Among (p, (t, s)) w.submitted → s.sequence ≡ r.sequence
     → ((x : ℕ) (d : StoreAsk) → Among (x, (t, d)) w.submitted → x ≡ place)
     → IsSaid b known.heard known.told place (Told r.answer) → place < known.floor
     → IsReplied b (after_handing w known) q r (Some (asks_for s.op))

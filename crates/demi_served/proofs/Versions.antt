@@ -37,22 +37,29 @@ module _ (limit : ℕ) (struck : ℕ → Option StoreTold) (old : List Record) (
 
   first_stored : (place : ℕ) (a : Ask) (rest : List Record) → slice_get all place ≡ Some a
       → StoredFrom (length (below limit struck old all (place + 1)).records + 1) rest
-      → StoredFrom (length (below limit struck old all place).records + 1) (added_by a (said_at limit place (below limit struck old all place) a (struck place)).0 ++ rest)
+      → StoredFrom (length (below limit struck old all place).records + 1)
+      (added_by a (said_at limit place (below limit struck old all place) a (struck place)).0 ++ rest)
   first_stored place a rest e h = go (added_told a (said_at limit place s a (struck place)).0)
     where
       s : Standing
       s = below limit struck old all place
 
-      grown : (below limit struck old all (place + 1)).records ≡ s.records ++ added_by a (said_at limit place s a (struck place)).0
-      grown = ap (λ (x : Standing). x.records) (below_next limit struck old all place a e) ∙ history_adds limit struck place s (a ∷ []) ∙ ap (λ (l : List Record). s.records ++ l) (append-nil (added_by a (said_at limit place s a (struck place)).0))
+      grown : (below limit struck old all (place + 1)).records ≡ s.records ++ added_by a
+          (said_at limit place s a (struck place)).0
+      grown = ap (λ (x : Standing). x.records) (below_next limit struck old all place a e)
+          ∙ history_adds limit struck place s (a ∷ [])
+          ∙ ap (λ (l : List Record). s.records ++ l) (append-nil (added_by a (said_at limit place s a (struck place)).0))
 
       go : ((added_by a (said_at limit place s a (struck place)).0 ≡ []) ⊎ ((r : Record) × (v : ℕ) × (bytes : List ℕ) × (a ≡ Puts r) × ((said_at limit place s a (struck place)).0 ≡ Told (Stored v bytes)) × (added_by a (said_at limit place s a (struck place)).0 ≡ r ∷ [])))
           → StoredFrom (length s.records + 1) (added_by a (said_at limit place s a (struck place)).0 ++ rest)
       go (inl none) =
-          let long : length (below limit struck old all (place + 1)).records ≡ length s.records = ap length grown ∙ length-append s.records _ ∙ ap (λ (l : List Record). length s.records + length l) none ∙ omega arith in
+          let long : length (below limit struck old all (place + 1)).records ≡ length s.records = ap length grown
+          ∙ length-append s.records _ ∙ ap (λ (l : List Record). length s.records + length l) none
+          ∙ omega arith in
           subst (λ (l : List Record). StoredFrom (length s.records + 1) (l ++ rest)) (sym none) (subst (λ m. StoredFrom (m + 1) rest) long h)
       go (inr (r, v, bytes, is, said, one)) =
-          let long : length (below limit struck old all (place + 1)).records ≡ length s.records + 1 = ap length grown ∙ length-append s.records _ ∙ ap (λ (l : List Record). length s.records + length l) one in
+          let long : length (below limit struck old all (place + 1)).records ≡ length s.records + 1 = ap length grown
+          ∙ length-append s.records _ ∙ ap (λ (l : List Record). length s.records + length l) one in
           let told : (said_at limit place s (Puts r) (struck place)).0 ≡ Told (Stored v bytes) = ap (λ (x : Ask). (said_at limit place s x (struck place)).0) (sym is) ∙ said in
           let version = put_version limit place r s (struck place) v bytes told in
           subst (λ (l : List Record). StoredFrom (length s.records + 1) (l ++ rest)) (sym one) (

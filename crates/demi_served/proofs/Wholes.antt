@@ -96,7 +96,8 @@ none_of link [] h = refl
 none_of link (d ∷ draws) h =
     let other = h 0 d refl in
     let test : (d.link == link) ≡ false = grind (arith, nat_tests) in
-    ap (λ (c : Bool). cond c (d ∷ of_link link draws) (of_link link draws)) test ∙ none_of link draws (λ i x e. h (suc i) x e)
+    ap (λ (c : Bool). cond c (d ∷ of_link link draws) (of_link link draws)) test
+    ∙ none_of link draws (λ i x e. h (suc i) x e)
 
 numbered_long : (link base : ℕ) (asks : List Asked) → length (numbered link base asks) ≡ length asks
 numbered_long link base [] = refl

@@ -20,7 +20,9 @@ use Rattle.demi_served.specs.Served.{Torn}
 use Rattle.demi_served.specs.Writing.{texts_of, TxEnd, PushesEach, WroteBefore, WroteAll}
 
 -- a push that may be told to be written has no other outcome
-one_outcome : (stop : Option ℕ) (sga : List HalfValue) (broken : Option ℕ) (closed : Bool) (here : Option ℕ) (o : TxOut) → TxAnswer stop (Some (Push sga)) broken closed here Pushed → TxAnswer stop (Some (Push sga)) broken closed here o → o ≡ Pushed
+one_outcome : (stop : Option ℕ) (sga : List HalfValue) (broken : Option ℕ) (closed : Bool) (here : Option ℕ)
+    (o : TxOut) → TxAnswer stop (Some (Push sga)) broken closed here Pushed
+    → TxAnswer stop (Some (Push sga)) broken closed here o → o ≡ Pushed
 one_outcome (Some s) sga broken closed here o a b = absurd (let e = a.0 in cc)
 one_outcome None sga (Some q) closed here o a b = absurd (cc)
 one_outcome None sga None true here o a b = absurd (cc)
@@ -64,8 +66,10 @@ none_pushed : (ops : List TxOp) (f : List (ℕ × TxOut)) → texts_of ops ≡ [
 none_pushed [] f e = refl
 none_pushed (op ∷ ops) [] e = refl
 none_pushed (Push sga ∷ ops) (o ∷ f) e = absurd (cc)
-none_pushed (Close ∷ ops) (o ∷ f) e = ap (λ (l : List ℕ). l ++ all_written ops f) (writes_none o.1) ∙ none_pushed ops f e
-none_pushed (Stop ∷ ops) (o ∷ f) e = ap (λ (l : List ℕ). l ++ all_written ops f) (writes_none o.1) ∙ none_pushed ops f e
+none_pushed (Close ∷ ops) (o ∷ f) e = ap (λ (l : List ℕ). l ++ all_written ops f) (writes_none o.1)
+    ∙ none_pushed ops f e
+none_pushed (Stop ∷ ops) (o ∷ f) e = ap (λ (l : List ℕ). l ++ all_written ops f) (writes_none o.1)
+    ∙ none_pushed ops f e
 
 -- the text of one push among texts
 has_push : (ops : List TxOp) (text : List ℕ) (texts : List (List ℕ)) → texts_of ops ≡ text ∷ texts → HasPush ops

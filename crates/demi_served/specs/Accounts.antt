@@ -89,7 +89,8 @@ pub record Accounted (b : StoreBasis) (history : List StoreEntry) (trail : List 
   -- each reply stands where a request does, and is accounted for
   pub replied : (link index : ℕ) (t : Talk) (r : Reply) → slice_get talks link ≡ Some t
       → slice_get t.replies index ≡ Some r
-      → (q : Asked) × (slice_get t.asks index ≡ Some q) × (1 ≤ r.sequence) × IsAccounted b history trail q r (ask_of link index q)
+      → (q : Asked) × (slice_get t.asks index ≡ Some q) × (1 ≤ r.sequence) × IsAccounted b history trail q r
+      (ask_of link index q)
   -- all replies of a link have one worker, and their numbers rise
   pub along : AllByRecursion (λ t. Pairwise IsNext t.replies) talks
   -- replies of one worker on two links have different numbers

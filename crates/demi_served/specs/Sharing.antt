@@ -27,7 +27,8 @@ pub record Did (history : List MemEntry) (p n : ℕ) (op : MemOp) (out : MemOut)
 -- Each of so many links' numbers was pushed on queue 0, none twice, and no other; and each of so many workers popped there
 -- until it was told that the queue is closed.
 pub record Shared (links workers : ℕ) (history : List MemEntry) : Type 0 where
-  pub each : (l : ℕ) → l < links → (p : ℕ) × (n : ℕ) × (sga : List HalfValue) × Did history p n (Push 0 sga) Pushed × (number_of sga ≡ l)
+  pub each : (l : ℕ) → l < links → (p : ℕ) × (n : ℕ) × (sga : List HalfValue) × Did history p n (Push 0 sga) Pushed ×
+      (number_of sga ≡ l)
   pub none_else : (p n t : ℕ) (sga : List HalfValue) → slice_get history p ≡ Some (n, (t, Push 0 sga))
       → number_of sga < links
   pub once : (p q n m t u : ℕ) (sga next : List HalfValue) → slice_get history p ≡ Some (n, (t, Push 0 sga))

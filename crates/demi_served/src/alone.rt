@@ -31,17 +31,23 @@ pub fn an_only_link_is_served_in_order()
     ensures stopped_again { (w : Worker) (p t : ℕ) → AskedAll w → AskedAll (after_stop w p t) }
     ensures handed_again { (w : Worker) (known : Trail StoreAsk StoreTold) → AskedAll w
         → AskedAll (after_handing w known) }
-    ensures replies { (b : StoreBasis) (end : Trail StoreAsk StoreTold) (history : List StoreEntry) (w : Worker) (k : Link) (run : Run) (t : Talk) → StoreEnds b end history (w ∷ []) (k ∷ []) run (t ∷ []) → AskedAll w
+    ensures replies { (b : StoreBasis) (end : Trail StoreAsk StoreTold) (history : List StoreEntry) (w : Worker)
+        (k : Link) (run : Run) (t : Talk) → StoreEnds b end history (w ∷ []) (k ∷ []) run (t ∷ []) → AskedAll w
         → t.replies ≡ take (length t.replies) (serial b.records b.limit t.asks).replies }
-    ensures all { (b : StoreBasis) (end : Trail StoreAsk StoreTold) (history : List StoreEntry) (w : Worker) (k : Link) (run : Run) (t : Talk) → StoreEnds b end history (w ∷ []) (k ∷ []) run (t ∷ []) → AskedAll w
+    ensures all { (b : StoreBasis) (end : Trail StoreAsk StoreTold) (history : List StoreEntry) (w : Worker)
+        (k : Link) (run : Run) (t : Talk) → StoreEnds b end history (w ∷ []) (k ∷ []) run (t ∷ []) → AskedAll w
         → length t.replies ≡ length t.asks → t.replies ≡ (serial b.records b.limit t.asks).replies }
     // what was written begins what the store on one thread writes
     ensures output { (written : List ℕ) (replies full : List Reply) → Torn written replies
         → replies ≡ take (length replies) full → StartsWith (flat_map spelling full) written }
-    ensures records { (b : StoreBasis) (end : Trail StoreAsk StoreTold) (history : List StoreEntry) (w : Worker) (k : Link) (run : Run) (t : Talk) → (ends : StoreEnds b end history (w ∷ []) (k ∷ []) run (t ∷ [])) → AskedAll w
+    ensures records { (b : StoreBasis) (end : Trail StoreAsk StoreTold) (history : List StoreEntry) (w : Worker)
+        (k : Link) (run : Run) (t : Talk) → (ends : StoreEnds b end history (w ∷ []) (k ∷ []) run (t ∷ []))
+        → AskedAll w
         → ends.logged.extra ≡ [] → length t.replies ≡ length k.drawn
         → drop run.old run.records ≡ (serial b.records b.limit (take (length t.replies) t.asks)).records }
-    ensures more { (b : StoreBasis) (end : Trail StoreAsk StoreTold) (history : List StoreEntry) (w : Worker) (k : Link) (run : Run) (t : Talk) → StoreEnds b end history (w ∷ []) (k ∷ []) run (t ∷ []) → AskedAll w
+    ensures more { (b : StoreBasis) (end : Trail StoreAsk StoreTold) (history : List StoreEntry) (w : Worker)
+        (k : Link) (run : Run) (t : Talk) → StoreEnds b end history (w ∷ []) (k ∷ []) run (t ∷ []) → AskedAll w
         → length k.drawn ≤ length t.replies + 1
-        → (drop run.old run.records ≡ (serial b.records b.limit (take (length t.replies) t.asks)).records) ⊎ (drop run.old run.records ≡ (serial b.records b.limit (take (length t.replies + 1) t.asks)).records) }
+        → (drop run.old run.records ≡ (serial b.records b.limit (take (length t.replies) t.asks)).records) ⊎
+        (drop run.old run.records ≡ (serial b.records b.limit (take (length t.replies + 1) t.asks)).records) }
 {}

@@ -17,8 +17,12 @@ ghost use Rattle.demi_served.specs.Sessions.{SessionAccounted};
 /// Where the store's port is closed, what each worker and each link kept alone accounts for each reply and each record;
 /// and with the ends of the links' ports and of the memory port all of the session is accounted for.
 pub fn a_closed_session_is_accounted()
-    ensures accounted { (b : StoreBasis) (end : Trail StoreAsk StoreTold) (history : List StoreEntry) (workers : List Worker) (links : List Link) (run : Run) (talks : List Talk) → StoreEnds b end history workers links run talks → Accounted b history end.told run talks }
-    ensures all { (b : StoreBasis) (end : Trail StoreAsk StoreTold) (history : List StoreEntry) (workers : List Worker) (links : List Link) (ports : List LinkPorts) (memory : List MemEntry) (run : Run) (talks : List Talk) → StoreEnds b end history workers links run talks
+    ensures accounted { (b : StoreBasis) (end : Trail StoreAsk StoreTold) (history : List StoreEntry)
+        (workers : List Worker) (links : List Link) (run : Run) (talks : List Talk)
+        → StoreEnds b end history workers links run talks → Accounted b history end.told run talks }
+    ensures all { (b : StoreBasis) (end : Trail StoreAsk StoreTold) (history : List StoreEntry)
+        (workers : List Worker) (links : List Link) (ports : List LinkPorts) (memory : List MemEntry) (run : Run)
+        (talks : List Talk) → StoreEnds b end history workers links run talks
         → AllEnded run.links ports talks → Shared (length run.links) (length workers) memory
         → SessionAccounted b history end.told ports (length workers) memory run talks }
 {}
@@ -26,18 +30,24 @@ pub fn a_closed_session_is_accounted()
 /// Where one history accounts for each reply and each record, the replies are answers of one store and the records are
 /// the links' puts.
 pub fn an_accounted_session_is_consistent()
-    ensures consistent { (b : StoreBasis) (history : List StoreEntry) (trail : List (ℕ × StoreTold)) (run : Run) (talks : List Talk) → Accounted b history trail run talks → Consistent run talks }
-    ensures recorded { (b : StoreBasis) (history : List StoreEntry) (trail : List (ℕ × StoreTold)) (run : Run) (talks : List Talk) → Accounted b history trail run talks → Recorded run talks }
+    ensures consistent { (b : StoreBasis) (history : List StoreEntry) (trail : List (ℕ × StoreTold)) (run : Run)
+        (talks : List Talk) → Accounted b history trail run talks → Consistent run talks }
+    ensures recorded { (b : StoreBasis) (history : List StoreEntry) (trail : List (ℕ × StoreTold)) (run : Run)
+        (talks : List Talk) → Accounted b history trail run talks → Recorded run talks }
 {}
 
 /// The ends of a session's store port, workers and links, with what was read and written of each link: the session served.
 pub fn a_closed_session_is_served()
-    ensures served { (b : StoreBasis) (end : Trail StoreAsk StoreTold) (history : List StoreEntry) (workers : List Worker) (links : List Link) (run : Run) (talks : List Talk) → StoreEnds b end history workers links run talks → AllZip TornTalk run.links talks → Served run }
+    ensures served { (b : StoreBasis) (end : Trail StoreAsk StoreTold) (history : List StoreEntry)
+        (workers : List Worker) (links : List Link) (run : Run) (talks : List Talk)
+        → StoreEnds b end history workers links run talks → AllZip TornTalk run.links talks → Served run }
 {}
 
 /// Where besides each number that was drawn was replied, and each reply was written whole, the session was whole.
 pub fn a_session_without_fault_is_whole()
-    ensures whole { (b : StoreBasis) (end : Trail StoreAsk StoreTold) (history : List StoreEntry) (workers : List Worker) (links : List Link) (run : Run) (talks : List Talk) → StoreEnds b end history workers links run talks
+    ensures whole { (b : StoreBasis) (end : Trail StoreAsk StoreTold) (history : List StoreEntry)
+        (workers : List Worker) (links : List Link) (run : Run) (talks : List Talk)
+        → StoreEnds b end history workers links run talks
         → AllByRecursion (λ k. length k.drawn ≡ length k.replies) links → AllZip WholeTalk run.links talks
         → Whole run }
 {}
@@ -49,5 +59,7 @@ pub fn a_whole_session_served()
 
 /// A session all of which is accounted for served.
 pub fn an_accounted_session_served()
-    ensures served { (b : StoreBasis) (history : List StoreEntry) (trail : List (ℕ × StoreTold)) (ports : List LinkPorts) (workers : ℕ) (memory : List MemEntry) (run : Run) (talks : List Talk) → SessionAccounted b history trail ports workers memory run talks → Served run }
+    ensures served { (b : StoreBasis) (history : List StoreEntry) (trail : List (ℕ × StoreTold))
+        (ports : List LinkPorts) (workers : ℕ) (memory : List MemEntry) (run : Run) (talks : List Talk)
+        → SessionAccounted b history trail ports workers memory run talks → Served run }
 {}

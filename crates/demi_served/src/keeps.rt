@@ -47,7 +47,9 @@ pub fn a_link_keeps()
     ensures handed { (b : StoreBasis) (w : Worker) (link : ℕ) (k : Link) (known : Trail StoreAsk StoreTold)
         → LinkKeeps b w link k → Behind known w.known → LinkKeeps b (after_handing w known) link k }
     // the operation with the token t was redeemed at the place `place`, and this was said there
-    ensures answered { (b : StoreBasis) (w : Worker) (known : Trail StoreAsk StoreTold) (q : Asked) (r : Reply) (s : StoreAsk) (p t place : ℕ) → Among (p, (t, s)) w.submitted → s.sequence ≡ r.sequence → ((x : ℕ) (d : StoreAsk) → Among (x, (t, d)) w.submitted → x ≡ place)
+    ensures answered { (b : StoreBasis) (w : Worker) (known : Trail StoreAsk StoreTold) (q : Asked) (r : Reply)
+        (s : StoreAsk) (p t place : ℕ) → Among (p, (t, s)) w.submitted → s.sequence ≡ r.sequence
+        → ((x : ℕ) (d : StoreAsk) → Among (x, (t, d)) w.submitted → x ≡ place)
         → IsSaid b known.heard known.told place (Told r.answer) → place < known.floor
         → IsReplied b (after_handing w known) q r (Some (asks_for s.op)) }
     ensures waits { (b : StoreBasis) (v w : Worker) (link : ℕ) (q : Asked) (r : Reply) (ask : Option Ask)

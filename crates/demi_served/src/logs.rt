@@ -28,5 +28,7 @@ pub fn a_log_ends_as_its_history<D: Disk>()
         → (standing_at_end b.base b.served seat.trail).fault ≡ Some p
         → Rose (D.faults a.core.log.disk) (D.faults b.core.log.disk) }
     // where the log had its text at first, its good front has the records
-    ensures text { (b : StoreBasis) (history : List StoreAsk) (trail : List (ℕ × StoreTold)) (old bytes : List ℕ) (records : List Record) → (e : LogEnds b history trail old bytes records) → old ≡ log_of b.records → bytes ≡ log_of records ++ e.torn }
+    ensures text { (b : StoreBasis) (history : List StoreAsk) (trail : List (ℕ × StoreTold)) (old bytes : List ℕ)
+        (records : List Record) → (e : LogEnds b history trail old bytes records) → old ≡ log_of b.records
+        → bytes ≡ log_of records ++ e.torn }
 {}

@@ -21,7 +21,8 @@ use demi_port_core::Law;
 /// An outcome that the store's law admits, where the log tells its bytes, is replied as the one-thread store answers: its
 /// answer, with the bytes that came back in the value or the room.
 pub fn an_outcome_is_replied()
-    ensures said { (b : StoreBasis) (h : List StoreAsk) (t : List (ℕ × StoreTold)) (p : ℕ) (out : StoreOut) (a : Answer) → b.told ≡ true → Admits b h t p out → reply_for out ≡ Some a → IsSaid b h t p (Told a) }
+    ensures said { (b : StoreBasis) (h : List StoreAsk) (t : List (ℕ × StoreTold)) (p : ℕ) (out : StoreOut)
+        (a : Answer) → b.told ≡ true → Admits b h t p out → reply_for out ≡ Some a → IsSaid b h t p (Told a) }
 {}
 
 /// What a store's port that was closed ensures of its passes is what is asked of a closed port, where each worker kept
