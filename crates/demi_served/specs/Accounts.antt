@@ -31,17 +31,21 @@ standing_at_end b history trail = standing b.limit b.records (struck_at trail) h
 
 -- nothing more, or the record of the put at whose place the disk failed
 abbrev pub IsLeft : Option ℕ → List Ask → List Record → Type 0
-IsLeft fault asks extra = (extra ≡ []) ⊎ ((p : ℕ) × (r : Record) × (fault ≡ Some p) × (slice_get asks p ≡ Some (Puts r)) × (extra ≡ r ∷ []))
+IsLeft fault asks extra =
+    (extra ≡ [])
+    ⊎ ((p : ℕ) × (r : Record) × (fault ≡ Some p) × (slice_get asks p ≡ Some (Puts r)) × (extra ≡ r ∷ []))
 
 -- The records of a log at the session's end: those that the history leaves, and at most one more, that of the put at
 -- whose place the disk failed, where its entry was left whole.
-pub record LeftInLog (b : StoreBasis) (history : List StoreAsk) (trail : List (ℕ × StoreTold)) (records : List Record) : Type 0 where
+pub record LeftInLog (b : StoreBasis) (history : List StoreAsk) (trail : List (ℕ × StoreTold))
+    (records : List Record) : Type 0 where
   pub extra : List Record
   pub all : records ≡ (standing_at_end b history trail).records ++ extra
   pub left : IsLeft (standing_at_end b history trail).fault (asked_in history) extra
 
 -- the reply's operation stands at the place p with the reply's worker and number, and the reply is what is said there
-pub record IsAnsweredAt (b : StoreBasis) (history : List StoreEntry) (trail : List (ℕ × StoreTold)) (ask : Ask) (r : Reply) (p : ℕ) : Type 0 where
+pub record IsAnsweredAt (b : StoreBasis) (history : List StoreEntry) (trail : List (ℕ × StoreTold)) (ask : Ask)
+    (r : Reply) (p : ℕ) : Type 0 where
   pub entry : StoreEntry
   pub here : slice_get history p ≡ Some entry
   pub worker : entry.0 ≡ r.worker
@@ -69,7 +73,8 @@ abbrev pub IsNext : Reply → Reply → Type 0
 IsNext first second = (first.worker ≡ second.worker) × (first.sequence < second.sequence)
 
 -- Every reply and every record of a session is accounted for by the one history of the store's port.
-pub record Accounted (b : StoreBasis) (history : List StoreEntry) (trail : List (ℕ × StoreTold)) (run : Run) (talks : List Talk) : Type 0 where
+pub record Accounted (b : StoreBasis) (history : List StoreEntry) (trail : List (ℕ × StoreTold)) (run : Run)
+    (talks : List Talk) : Type 0 where
   -- the base is the old records and the limit, and tells its bytes
   pub old : length b.records ≡ run.old
   pub limit : b.limit ≡ run.limit

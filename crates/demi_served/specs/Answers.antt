@@ -37,7 +37,8 @@ looked_at records Bye = []
 pub record Answers (run : Run) (link index : ℕ) (q : Asked) (a : Answer) : Type 0 where
   pub said : answer (looked_at run.records a) run.limit q ≡ a
   pub names : IfSome (version_of a) (λ v. (run.old ≤ v) × (v ≤ length run.records))
-  pub stores : IsTrue (is_stored a) → IfSome (version_of a) (λ v. (run.old < v) × (take v run.records ≡ looked_at run.records a ++ added (looked_at run.records a) run.limit link index q))
+  pub stores : IsTrue (is_stored a)
+      → IfSome (version_of a) (λ v. (run.old < v) × (take v run.records ≡ looked_at run.records a ++ added (looked_at run.records a) run.limit link index q))
 
 -- each reply stands where a request does, and answers it; the first has this index
 abbrev pub AnswersEach : Run → ℕ → ℕ → List Asked → List Reply → Type 0

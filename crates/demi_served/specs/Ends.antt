@@ -36,7 +36,8 @@ PassesOf n workers passes = ⊥
 
 -- The store's port was closed: the device heard all that its history says, each worker's pass has its own entries,
 -- there are no others, and what a pass was handed begins what there is.
-pub record PortClosed (end : Trail StoreAsk StoreTold) (history : List StoreEntry) (workers : List Worker) : Type 0 where
+pub record PortClosed (end : Trail StoreAsk StoreTold) (history : List StoreEntry)
+    (workers : List Worker) : Type 0 where
   pub heard : end.heard ≡ says history
   pub entries : (p : ℕ) (e : StoreEntry) → get_elem? history p ≡ some e → e.0 < length workers
   pub passes : Placed (λ n w. (w.submitted ≡ of_pass n 0 history) × Behind end w.known) 0 workers
@@ -54,7 +55,8 @@ abbrev pub IsTalkOf : Link → Talk → Type 0
 IsTalkOf k t = (t.replies ≡ k.replies) × StartsWith t.asks k.drawn
 
 -- The ends of a session's store port, its log, its workers and its links.
-pub record StoreEnds (b : StoreBasis) (end : Trail StoreAsk StoreTold) (history : List StoreEntry) (workers : List Worker) (links : List Link) (run : Run) (talks : List Talk) : Type 0 where
+pub record StoreEnds (b : StoreBasis) (end : Trail StoreAsk StoreTold) (history : List StoreEntry)
+    (workers : List Worker) (links : List Link) (run : Run) (talks : List Talk) : Type 0 where
   pub old : length b.records ≡ run.old
   pub limit : b.limit ≡ run.limit
   pub told : b.told ≡ true

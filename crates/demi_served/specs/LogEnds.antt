@@ -11,11 +11,14 @@ use Rattle.demi_served.specs.Accounts.{asked_in, standing_at_end, LeftInLog}
 -- nothing, or a proper front of the entry of the put at whose place the disk failed
 abbrev pub IsTorn : Option ℕ → List Ask → List ℕ → Type 0
 IsTorn fault asks torn =
-    (torn ≡ []) ⊎ ((p : ℕ) × (r : Record) × (k : ℕ) × (fault ≡ Some p) × (slice_get asks p ≡ Some (Puts r)) × (k < length (entry (payload r))) × (torn ≡ take k (entry (payload r))))
+    (torn ≡ [])
+    ⊎ ((p : ℕ) × (r : Record) × (k : ℕ) × (fault ≡ Some p) × (slice_get asks p ≡ Some (Puts r))
+    × (k < length (entry (payload r))) × (torn ≡ take k (entry (payload r))))
 
 -- The log's bytes at the end are those that it had, the entries of its new records, and of one more put at most a proper
 -- front of its entry.
-pub record LogEnds (b : StoreBasis) (history : List StoreAsk) (trail : List (ℕ × StoreTold)) (old bytes : List ℕ) (records : List Record) : Type 0 where
+pub record LogEnds (b : StoreBasis) (history : List StoreAsk) (trail : List (ℕ × StoreTold)) (old bytes : List ℕ)
+    (records : List Record) : Type 0 where
   pub logged : LeftInLog b history trail records
   pub torn : List ℕ
   pub is_torn : IsTorn (standing_at_end b history trail).fault (asked_in history) torn

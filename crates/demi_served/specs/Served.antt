@@ -56,7 +56,8 @@ pub record Recorded (run : Run) (talks : List Talk) : Type 0 where
 abbrev pub Torn : List ℕ → List Reply → Type 0
 Torn written replies =
     (written ≡ flat_map spelling replies)
-    ⊎ ((before : List Reply) × (last : Reply) × (k : ℕ) × (replies ≡ before ++ last ∷ []) × (k < length (spelling last)) × (written ≡ flat_map spelling before ++ take k (spelling last)))
+    ⊎ ((before : List Reply) × (last : Reply) × (k : ℕ) × (replies ≡ before ++ last ∷ [])
+    × (k < length (spelling last)) × (written ≡ flat_map spelling before ++ take k (spelling last)))
 
 -- the talk is what was read of a link and what was written to it
 pub record TornTalk (link : LinkRun) (talk : Talk) : Type 0 where

@@ -8,7 +8,8 @@ use Rattle.demi_served.specs.Links.{LinkPorts, AllEnded}
 use Rattle.demi_served.specs.Sharing.{MemEntry, Shared}
 
 -- All of a session is accounted for by the closed histories of its ports.
-pub record SessionAccounted (b : StoreBasis) (history : List StoreEntry) (trail : List (ℕ × StoreTold)) (ports : List LinkPorts) (workers : ℕ) (memory : List MemEntry) (run : Run) (talks : List Talk) : Type 0 where
+pub record SessionAccounted (b : StoreBasis) (history : List StoreEntry) (trail : List (ℕ × StoreTold))
+    (ports : List LinkPorts) (workers : ℕ) (memory : List MemEntry) (run : Run) (talks : List Talk) : Type 0 where
   pub store : Accounted b history trail run talks
   pub links : AllEnded run.links ports talks
   pub sharing : Shared (length run.links) workers memory

@@ -30,7 +30,8 @@ PushesEach h replies = texts_of h ≡ map spelling replies
 
 -- each push that another follows was written
 abbrev pub WroteBefore : List TxOp → List (ℕ × ℕ) → Type 0
-WroteBefore h t = (p q : ℕ) (sga next : List HalfValue) → p < q → slice_get h p ≡ Some (Push sga) → slice_get h q ≡ Some (Push next) → TxAdmits h t p Pushed
+WroteBefore h t = (p q : ℕ) (sga next : List HalfValue) → p < q
+    → slice_get h p ≡ Some (Push sga) → slice_get h q ≡ Some (Push next) → TxAdmits h t p Pushed
 
 -- each push was written
 abbrev pub WroteAll : List TxOp → List (ℕ × ℕ) → Type 0
