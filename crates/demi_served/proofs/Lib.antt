@@ -29,3 +29,4 @@ mod Writing
 mod LogRuns
 mod Decoded
 mod Outputs
+mod Ranges

@@ -1,5 +1,6 @@
 pub mod Talks
 pub mod Answers
+pub mod Ranges
 pub mod Served
 pub mod Asking
 pub mod Accounts

@@ -1,11 +1,17 @@
 // What the ends of a session show.
-ghost use Rattle.std.specs.Prelude.{◌≡◌, ℕ, List, length};
+ghost use Rattle.std.specs.Prelude.{◌≡◌, ◌≤◌, ℕ, Bool, List, drop, length};
 ghost use Rattle.std.specs.List.{AllByRecursion, AllZip};
 ghost use Rattle.demi_port_core.specs.declared.trail.Trail.{Trail};
+ghost use Rattle.demi_spec.specs.Request.{IsBytes};
+ghost use Rattle.demi_spec.specs.Input.{Asked, asked};
+ghost use Rattle.demi_spec.specs.Record.{IsRecord};
+ghost use Rattle.demi_spec.specs.Reply.{Answer, IsAnswer, word_max};
 ghost use Rattle.demi_store.specs.Laws.{StoreBasis};
 ghost use Rattle.demi_store.specs.declared.ask.StoreAsk.{StoreAsk};
 ghost use Rattle.demi_store.specs.declared.told.StoreTold.{StoreTold};
 ghost use Rattle.demi_served.specs.Talks.{Run, Talk};
+ghost use Rattle.demi_served.specs.Ranges.{IsInRange};
+ghost use Rattle.demi_served.specs.Answers.{Answers};
 ghost use Rattle.demi_served.specs.Served.{Consistent, Recorded, TornTalk, Served, WholeTalk, Whole};
 ghost use Rattle.demi_served.specs.Accounts.{StoreEntry, Accounted};
 ghost use Rattle.demi_served.specs.Keeps.{Worker, Link};
@@ -62,4 +68,16 @@ pub fn an_accounted_session_served()
     ensures served { (b : StoreBasis) (history : List StoreEntry) (trail : List (ℕ × StoreTold))
         (ports : List LinkPorts) (workers : ℕ) (memory : List MemEntry) (run : Run) (talks : List Talk)
         → SessionAccounted b history trail ports workers memory run talks → Served run }
+{}
+
+/// What a text of bytes asks is in range. So is each answer that stands for it, where the log's records are and no more than a
+/// number of eight bytes counts; and so is each new record, of at most 65,536 links with 2^32 requests each.
+pub fn an_answer_is_in_range()
+    ensures asks { (bytes : List ℕ) (ended : Bool) → IsBytes bytes → AllByRecursion IsInRange (asked bytes ended) }
+    ensures answer { (run : Run) → AllByRecursion IsRecord run.records → length run.records ≤ word_max
+        → (link index : ℕ) (q : Asked) (a : Answer) → IsInRange q → Answers run link index q a → IsAnswer a }
+    ensures records { (run : Run) (talks : List Talk) → Recorded run talks → length talks ≤ 65536
+        → AllByRecursion (λ t. length t.asks ≤ 4294967296) talks
+        → AllByRecursion (λ t. AllByRecursion IsInRange t.asks) talks
+        → AllByRecursion IsRecord (drop run.old run.records) }
 {}

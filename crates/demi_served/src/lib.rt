@@ -23,6 +23,7 @@ pub use alone::an_only_link_is_served_in_order;
 pub use ends::{
     a_closed_session_is_accounted, a_closed_session_is_served, a_session_without_fault_is_whole,
     a_whole_session_served, an_accounted_session_is_consistent, an_accounted_session_served,
+    an_answer_is_in_range,
 };
 pub use keeps::{a_link_keeps, a_worker_keeps, other_links_are_beside, what_was_said_stays};
 pub use links::{
