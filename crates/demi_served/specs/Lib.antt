@@ -1,0 +1,16 @@
+pub mod Talks
+pub mod Answers
+pub mod Ranges
+pub mod Served
+pub mod Asking
+pub mod Accounts
+pub mod Keeps
+pub mod Steps
+pub mod Ends
+pub mod Alone
+pub mod Reading
+pub mod Writing
+pub mod Links
+pub mod Sharing
+pub mod Sessions
+pub mod LogEnds
