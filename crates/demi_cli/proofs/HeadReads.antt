@@ -1,9 +1,8 @@
 -- Heads that were read, one after another.
-use Rattle.std.proofs.Common.{◌≡◌, ℕ, zero, suc, ◌+◌, ◌-◌, ◌<◌, ◌≤◌, List, [], ◌∷◌, ◌++◌, length, take, drop, get_or, map, Option, None, Some, refl, ap, sym, ◌∙◌, subst, arith, length-append, length-take, length-drop, append_assoc}
-use Rattle.std.specs.Prelude.{IfSome, slice_index}
-use Rattle.std.specs.List.{AllByRecursion}
+use Rattle.std.proofs.Common.{◌≡◌, ℕ, suc, ◌+◌, ◌<◌, List, [], ◌∷◌, ◌++◌, length, take, get_or, map, Option, None, Some, refl, ap, sym, ◌∙◌, subst, arith, length-append, append_assoc}
+use Rattle.std.specs.Prelude.{IfSome}
 use Rattle.std.proofs.lemmas.List.{append-nil}
-use Rattle.demi_spec.specs.Record.{Record, IsRecord, payload}
+use Rattle.demi_spec.specs.Record.{Record, payload}
 use Rattle.demi_logq.specs.Logged.{Holds, place_of, end_of}
 use Rattle.demi_logq.proofs.Entry.{length-ends}
 use Rattle.demi_store.specs.Openings.{Alike, FitsRecord, heard, payload_told}
@@ -12,7 +11,7 @@ use Rattle.demi_store.proofs.Opened.{alike_more, told_payload, all_alike, text_r
 use Rattle.demi_store.proofs.Shelving.{fits_more}
 use Rattle.demi_cli.specs.declared.head.Head.{Head}
 use Rattle.demi_cli.specs.declared.heads.Heads.{Heads}
-use Rattle.demi_cli.specs.Heads.{HeadsAll, HeadsOf, HeadsTo, head_of, keys_of}
+use Rattle.demi_cli.specs.Heads.{HeadsAll, HeadsTo, head_of, keys_of}
 
 heads_push : (records : List Record) (r : Record) → map head_of (records ++ r ∷ []) ≡ map head_of records ++ head_of r ∷ []
 heads_push [] r = refl

@@ -1,5 +1,5 @@
 -- What each status of `log` says, from what stands at its outcome.
-use Rattle.std.proofs.Common.{◌≡◌, ◌≢◌, ℕ, ◌≤◌, List, ◌++◌, Option, Some, None, refl, ap, sym, ◌∙◌, subst, inl, inr, ◌⊎◌, arith}
+use Rattle.std.proofs.Common.{◌≡◌, ◌≢◌, ℕ, ◌≤◌, List, Option, None, ap, sym, ◌∙◌, subst, inl, inr, ◌⊎◌, arith}
 use Rattle.std.specs.Prelude.{IfSome, Result, Ok, Err, IfOk, IfErr, false}
 use Rattle.std.specs.Io.KnownBytes.{append_known}
 use Rattle.demi_core.specs.Outside.{Rose}
@@ -15,7 +15,7 @@ use Rattle.demi_cli.specs.Outcome.{status_of, reported}
 use Rattle.demi_cli.specs.Serving.{contents_of}
 use Rattle.demi_cli.specs.Ended.{Unopened}
 use Rattle.demi_cli.specs.Run.{LogOf, NoLink, NoLog, LogFaulted, BadLog, GoodLog, HadRecords, Warned}
-use Rattle.demi_cli.specs.Listing.{KeepsOne, SameButTold, KeepsLog, SaysLines, SaysPart, GivesNone, Unread, HadThese, Listed}
+use Rattle.demi_cli.specs.Listing.{KeepsOne, SameButTold, KeepsLog, SaysLines, SaysPart, GivesNone, Unread, Listed}
 use Rattle.demi_cli.proofs.Clauses.{kept_log_of}
 
 -- a log that was not opened was not read

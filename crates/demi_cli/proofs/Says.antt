@@ -3,7 +3,6 @@ use Rattle.std.proofs.Common.{◌≡◌, ℕ, zero, suc, ◌+◌, ◌-◌, ◌<�
 use Rattle.std.specs.Prelude.{Result, Ok, Err, OnOk, OnErr}
 use Rattle.std.proofs.lemmas.List.{append-nil, length-map, take_all}
 use Rattle.std.proofs.Math.Seq.{take-append_seam, drop-append-add}
-use Rattle.std.specs.Io.KnownBytes.{append_known}
 use Rattle.demi_core.specs.World.{WorldState, after_say}
 use Rattle.demi_spec.specs.Record.{Record}
 use Rattle.demi_cli.specs.declared.head.Head.{Head}

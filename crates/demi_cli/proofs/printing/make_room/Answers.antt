@@ -1,4 +1,4 @@
-use Rattle.std.proofs.Common.{◌≡◌, ◌∙◌, ap, List, ℕ, take}
+use Rattle.std.proofs.Common.{◌∙◌, ap, List, ℕ, take}
 use Rattle.demi_core.specs.World.{after_say}
 use Rattle.demi_cli.proofs.Says.{some_said}
 use Rattle.demi_cli.proofs.printing.make_room.Goals as goal

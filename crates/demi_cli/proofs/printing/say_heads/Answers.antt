@@ -1,8 +1,7 @@
-use Rattle.std.proofs.Common.{◌≡◌, ◌≤◌, ◌+◌, ◌++◌, ◌∙◌, ap, sym, subst, List, ℕ, length, take, arith, get_or}
-use Rattle.demi_spec.specs.Record.{Record}
+use Rattle.std.proofs.Common.{◌≡◌, ◌+◌, ◌++◌, ◌∙◌, ap, sym, subst, List, ℕ, length, take, arith, get_or}
 use Rattle.demi_core.specs.World.{after_say}
 use Rattle.demi_cli.specs.declared.head.Head.{Head}
-use Rattle.demi_cli.specs.Lines.{count_line, line, line_of, lines_from, log_lines}
+use Rattle.demi_cli.specs.Lines.{count_line, line, lines_from}
 use Rattle.demi_cli.specs.Saying.{SaidBut, SaidFront}
 use Rattle.demi_cli.proofs.Says.{front_on, front_longer, said_on, said_whole, here, heads_count, line_here, lines_more, lines_on, lines_end, no_record, on_ok, on_err}
 use Rattle.demi_cli.proofs.printing.say_heads.Goals as goal

@@ -1,4 +1,4 @@
-use Rattle.std.proofs.Common.{◌≡◌, ◌+◌, ◌-◌, ◌<◌, ◌++◌, ◌∷◌, [], ℕ, List, length, take, drop, min, arith, ap, sym, ◌∙◌, subst, refl, length-take, length-drop}
+use Rattle.std.proofs.Common.{◌≡◌, ◌+◌, ◌-◌, ◌<◌, ◌++◌, ◌∷◌, [], ℕ, List, length, take, drop, arith, ap, sym, ◌∙◌, subst, length-take, length-drop}
 use Rattle.std.specs.Prelude.{IfSome, Err, slice_index}
 use Rattle.std.specs.Int.{w16, w32, to_be_bytes}
 use Rattle.demi_spec.specs.Record.{Record, records_from}
@@ -6,7 +6,6 @@ use Rattle.demi_store.specs.Openings.{payload_told, heard}
 use Rattle.demi_store.proofs.Heard.{Spells}
 use Rattle.demi_store.proofs.Opened.{bad_read, length_told}
 use Rattle.demi_cli.specs.declared.head.Head.{Head}
-use Rattle.demi_cli.specs.Heads.{head_of}
 use Rattle.demi_cli.proofs.HeadReads.{head_more, head_is}
 use Rattle.demi_cli.proofs.reading.read_head.Goals as goal
 

@@ -1,5 +1,5 @@
-use Rattle.std.proofs.Common.{◌≡◌, ◌∙◌, ℕ, List, ap, sym, subst, Err}
-use Rattle.demi_core.specs.World.{Log, WorldState, after_keep_log}
+use Rattle.std.proofs.Common.{◌≡◌, ◌∙◌, subst}
+use Rattle.demi_core.specs.World.{Log}
 use Rattle.demi_core.specs.Outside.{Rose}
 use Rattle.demi_cli.proofs.Lists.{keeps_one, listed_unread, on_read, on_unread}
 use Rattle.demi_cli.proofs.tool.list.Goals as goal

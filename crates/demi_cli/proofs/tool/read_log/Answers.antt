@@ -1,4 +1,4 @@
-use Rattle.std.proofs.Common.{◌≡◌, ◌∙◌, ℕ, List, [], length, Option, Some, None, refl, ap, sym, subst, inl}
+use Rattle.std.proofs.Common.{◌≡◌, ◌∙◌, ℕ, List, [], length, Option, Some, None, refl, inl}
 use Rattle.std.specs.Prelude.{IfSome}
 use Rattle.demi_cli.proofs.Opens.{read_none}
 use Rattle.demi_cli.proofs.tool.read_log.Goals as goal

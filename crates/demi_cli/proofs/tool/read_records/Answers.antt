@@ -1,6 +1,5 @@
-use Rattle.std.proofs.Common.{◌≡◌, ap, sym, subst, refl}
+use Rattle.std.proofs.Common.{sym, subst, refl}
 use Rattle.demi_core.specs.World.{Log}
-use Rattle.demi_logq.specs.Logged.{Logged}
 use Rattle.demi_cli.specs.declared.outcome.Outcome.{Outcome}
 use Rattle.demi_cli.specs.Listing.{Unread}
 use Rattle.demi_cli.proofs.Opens.{at_moment, had_records, not_made}

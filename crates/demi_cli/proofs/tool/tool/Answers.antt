@@ -1,9 +1,9 @@
-use Rattle.std.proofs.Common.{◌≡◌, ap, List, ℕ, map}
+use Rattle.std.proofs.Common.{ap, map}
 use Rattle.std.specs.Prelude.{string_bytes}
 use Rattle.demi_core.specs.World.{WorldState}
 use Rattle.demi_cli.specs.declared.outcome.Outcome.TheVariants as outcome
 use Rattle.demi_cli.specs.Words.{log_name}
-use Rattle.demi_cli.proofs.Lists.{Facts, facts}
+use Rattle.demi_cli.proofs.Lists.{facts}
 use Rattle.demi_cli.proofs.tool.tool.Goals as goal
 
 pub returns-in_default-clause-warned : goal.returns-in_default-clause-warned
