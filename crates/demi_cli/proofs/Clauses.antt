@@ -1,6 +1,6 @@
 -- What a status says, from what stands at an outcome.
 use Rattle.std.proofs.Common.{◌≡◌, ◌≢◌, ℕ, List, Option, Some, None, refl, ap, sym, ◌∙◌, subst, inl, inr, ◌⊎◌}
-use Rattle.std.specs.Prelude.{if◌then◌else◌, ◌==◌}
+use Rattle.std.specs.Prelude.{if◌then◌else◌, ◌==◌, true}
 use Rattle.std.proofs.lemmas.Slice.Eq.{bytes_eq-Decides}
 use Rattle.demi_core.specs.World.{WorldState, Link, Log, after_log, LogRefused}
 use Rattle.demi_cli.specs.declared.serving.Fault.{Fault}
@@ -14,29 +14,40 @@ use Rattle.demi_cli.specs.Run.{Gave, A_log, Nothing, KeepsAll, with_link, Headed
 -- the outcome of a status
 abbrev outcome_at : ℕ → ℕ → Outcome
 outcome_at n code =
-    if n == 0 then outcome.Served else if n == 1 then outcome.Usage else if n == 2 then outcome.ReadFault else if n == 3 then outcome.WriteFault
+    if n == 0 then outcome.Done else if n == 1 then outcome.Usage else if n == 2 then outcome.ReadFault else if n == 3 then outcome.WriteFault
     else if n == 4 then outcome.LogFault else if n == 5 then outcome.NoMemory else if n == 6 then outcome.Refused code else if n == 7 then outcome.BadLog code else outcome.CannotOpen
 
-back : (o : Outcome) → (code : ℕ) × (o ≡ outcome_at (status_of o) code)
-back outcome.Served = (0, refl)
-back outcome.Usage = (0, refl)
-back outcome.ReadFault = (0, refl)
-back outcome.WriteFault = (0, refl)
-back outcome.LogFault = (0, refl)
-back outcome.NoMemory = (0, refl)
-back (outcome.Refused code) = (code, refl)
-back (outcome.BadLog at) = (at, refl)
-back outcome.CannotOpen = (0, refl)
+back : (o : Outcome) → o ≢ outcome.PrintFault → (code : ℕ) × (o ≡ outcome_at (status_of o) code)
+back outcome.Done link = (0, refl)
+back outcome.Usage link = (0, refl)
+back outcome.ReadFault link = (0, refl)
+back outcome.WriteFault link = (0, refl)
+back outcome.PrintFault link = absurd (link refl)
+back outcome.LogFault link = (0, refl)
+back outcome.NoMemory link = (0, refl)
+back (outcome.Refused code) link = (code, refl)
+back (outcome.BadLog at) link = (at, refl)
+back outcome.CannotOpen link = (0, refl)
 
-is_at : (n m : ℕ) (o : Outcome) → n ≡ status_of o → n ≡ m → (code : ℕ) × (o ≡ outcome_at m code)
-is_at n m o is e = let b = back o in (b.0, b.1 ∙ ap (λ k. outcome_at k b.0) (sym is ∙ e))
+-- a run over a log says nothing on the output
+no_print_at : (gave : Gave) (f0 f1 : ℕ) → AtOutcome outcome.PrintFault gave f0 f1 → ⊥
+no_print_at Nothing f0 f1 ends = ends
+no_print_at (A_log log kept None) f0 f1 ends = ends.at
+no_print_at (A_log log kept (Some p)) f0 f1 ends = ends.at
+
+no_print : (old mid : WorldState) (f0 f1 : ℕ) (name : List ℕ) (o : Outcome) → Ran old mid f0 f1 name o → o ≢ outcome.PrintFault
+no_print old mid f0 f1 name o r e = no_print_at r.gave f0 f1 (subst (λ (x : Outcome). AtOutcome x r.gave f0 f1) e r.ends)
+
+is_at : (n m : ℕ) (old mid : WorldState) (f0 f1 : ℕ) (name : List ℕ) (o : Outcome) → Ran old mid f0 f1 name o → n ≡ status_of o → n ≡ m → (code : ℕ) × (o ≡ outcome_at m code)
+is_at n m old mid f0 f1 name o r is e = let b = back o (no_print old mid f0 f1 name o r) in (b.0, b.1 ∙ ap (λ k. outcome_at k b.0) (sym is ∙ e))
 
 -- a report changes the warning alone
 only_warned : (o : Outcome) (mid : WorldState) → reported o mid ≡ record mid { warned = (reported o mid).warned }
-only_warned outcome.Served mid = refl
+only_warned outcome.Done mid = refl
 only_warned outcome.Usage mid = refl
 only_warned outcome.ReadFault mid = refl
 only_warned outcome.WriteFault mid = refl
+only_warned outcome.PrintFault mid = refl
 only_warned outcome.LogFault mid = refl
 only_warned outcome.NoMemory mid = refl
 only_warned (outcome.Refused code) mid = refl
@@ -47,10 +58,11 @@ pub same_but : (o : Outcome) (mid new : WorldState) → new ≡ reported o mid �
 same_but o mid new is = is ∙ only_warned o mid ∙ ap (λ (t : List ℕ). record mid { warned = t }) (ap (λ (w : WorldState). w.warned) (sym is))
 
 warned_of : (o : Outcome) (old mid : WorldState) → mid.warned ≡ old.warned → (reported o mid).warned ≡ (reported o old).warned
-warned_of outcome.Served old mid e = e
+warned_of outcome.Done old mid e = e
 warned_of outcome.Usage old mid e = refl
 warned_of outcome.ReadFault old mid e = refl
 warned_of outcome.WriteFault old mid e = refl
+warned_of outcome.PrintFault old mid e = refl
 warned_of outcome.LogFault old mid e = refl
 warned_of outcome.NoMemory old mid e = refl
 warned_of (outcome.Refused code) old mid e = refl
@@ -76,8 +88,8 @@ said old mid new f0 f1 name o r is = ap (λ (w : WorldState). w.said) (same_but 
 warning : (old mid new : WorldState) (f0 f1 : ℕ) (name : List ℕ) (o : Outcome) → Ran old mid f0 f1 name o → new ≡ reported o mid → new.warned ≡ (reported o old).warned
 warning old mid new f0 f1 name o r is = ap (λ (w : WorldState). w.warned) is ∙ warned_of o old mid (mid_warned r.gave name old mid r.keeps)
 
-pub warned : (old mid new : WorldState) (f0 f1 : ℕ) (name : List ℕ) (o : Outcome) (n : ℕ) → Ran old mid f0 f1 name o → n ≡ status_of o → new ≡ reported o mid → Warned n old new
-warned old mid new f0 f1 name o n r status is = (o, status, warning old mid new f0 f1 name o r is)
+pub warned : (old mid new : WorldState) (f0 f1 : ℕ) (name : List ℕ) (o : Outcome) (n : ℕ) → Ran old mid f0 f1 name o → n ≡ status_of o → new ≡ reported o mid → Warned true n old new
+warned old mid new f0 f1 name o n r status is = (o, status, no_print old mid f0 f1 name o r, warning old mid new f0 f1 name o r is)
 
 pub keeps : (old mid new : WorldState) (f0 f1 : ℕ) (name : List ℕ) (o : Outcome) → Ran old mid f0 f1 name o → new ≡ reported o mid → Keeps old new name
 keeps old mid new f0 f1 name o r is = (r.gave, (mid, r.keeps, same_but o mid new is))
@@ -125,7 +137,7 @@ cannot_open_at old mid new f0 f1 name (A_log log kept (Some p)) keeps same ends 
 
 pub cannot_open : (old mid new : WorldState) (f0 f1 : ℕ) (name : List ℕ) (o : Outcome) (n : ℕ) → Ran old mid f0 f1 name o → n ≡ status_of o → new ≡ reported o mid → n ≡ 8 → CannotOpen old new name f0 f1
 cannot_open old mid new f0 f1 name o n r status is e =
-    let at : o ≡ outcome.CannotOpen = (is_at n 8 o status e).1 in
+    let at : o ≡ outcome.CannotOpen = (is_at n 8 old mid f0 f1 name o r status e).1 in
     cannot_open_at old mid new f0 f1 name r.gave r.keeps (same_but o mid new is) (subst (λ (x : Outcome). AtOutcome x r.gave f0 f1) at r.ends)
 
 bad_log_at : (old mid new : WorldState) (f0 f1 : ℕ) (name : List ℕ) (at : ℕ) (gave : Gave) → KeepsAll gave name old mid → SameButWarned mid new → new.warned ≡ (reported (outcome.BadLog at) old).warned
@@ -137,7 +149,7 @@ bad_log_at old mid new f0 f1 name at (A_log log kept (Some p)) keeps same text e
 
 pub bad_log : (old mid new : WorldState) (f0 f1 : ℕ) (name : List ℕ) (o : Outcome) (n : ℕ) → Ran old mid f0 f1 name o → n ≡ status_of o → new ≡ reported o mid → n ≡ 7 → BadLog old new name
 bad_log old mid new f0 f1 name o n r status is e =
-    let b = is_at n 7 o status e in
+    let b = is_at n 7 old mid f0 f1 name o r status e in
     bad_log_at old mid new f0 f1 name b.0 r.gave r.keeps (same_but o mid new is) (warning old mid new f0 f1 name o r is ∙ ap (λ (x : Outcome). (reported x old).warned) b.1)
     (subst (λ (x : Outcome). AtOutcome x r.gave f0 f1) b.1 r.ends)
 
@@ -154,7 +166,7 @@ log_fault_at old mid new f0 f1 name (A_log log kept (Some p)) keeps same ends =
 log_faulted : (old mid new : WorldState) (f0 f1 : ℕ) (name : List ℕ) (o : Outcome) (n : ℕ) → Ran old mid f0 f1 name o → n ≡ status_of o → new ≡ reported o mid → n ≡ 4
     → LogFaulted old new name × (Unlinked fault.Log old new name ⊎ StoppedRun fault.Log old new name)
 log_faulted old mid new f0 f1 name o n r status is e =
-    let at : o ≡ outcome.LogFault = (is_at n 4 o status e).1 in
+    let at : o ≡ outcome.LogFault = (is_at n 4 old mid f0 f1 name o r status e).1 in
     log_fault_at old mid new f0 f1 name r.gave r.keeps (same_but o mid new is) (subst (λ (x : Outcome). AtOutcome x r.gave f0 f1) at r.ends)
 
 pub log_fault : (old mid new : WorldState) (f0 f1 : ℕ) (name : List ℕ) (o : Outcome) (n : ℕ) → Ran old mid f0 f1 name o → n ≡ status_of o → new ≡ reported o mid → n ≡ 4 → LogFaulted old new name
@@ -171,7 +183,7 @@ read_fault_at old mid new f0 f1 name (A_log log kept (Some p)) keeps same ends =
 read_faulted : (old mid new : WorldState) (f0 f1 : ℕ) (name : List ℕ) (o : Outcome) (n : ℕ) → Ran old mid f0 f1 name o → n ≡ status_of o → new ≡ reported o mid → n ≡ 2
     → ReadFaulted old new × StoppedRun fault.Read old new name
 read_faulted old mid new f0 f1 name o n r status is e =
-    let at : o ≡ outcome.ReadFault = (is_at n 2 o status e).1 in
+    let at : o ≡ outcome.ReadFault = (is_at n 2 old mid f0 f1 name o r status e).1 in
     read_fault_at old mid new f0 f1 name r.gave r.keeps (same_but o mid new is) (subst (λ (x : Outcome). AtOutcome x r.gave f0 f1) at r.ends)
 
 pub read_fault : (old mid new : WorldState) (f0 f1 : ℕ) (name : List ℕ) (o : Outcome) (n : ℕ) → Ran old mid f0 f1 name o → n ≡ status_of o → new ≡ reported o mid → n ≡ 2 → ReadFaulted old new
@@ -188,7 +200,7 @@ write_fault_at old mid new f0 f1 name (A_log log kept (Some p)) keeps same ends 
 write_faulted : (old mid new : WorldState) (f0 f1 : ℕ) (name : List ℕ) (o : Outcome) (n : ℕ) → Ran old mid f0 f1 name o → n ≡ status_of o → new ≡ reported o mid → n ≡ 3
     → WriteFaulted old new × StoppedRun fault.Write old new name
 write_faulted old mid new f0 f1 name o n r status is e =
-    let at : o ≡ outcome.WriteFault = (is_at n 3 o status e).1 in
+    let at : o ≡ outcome.WriteFault = (is_at n 3 old mid f0 f1 name o r status e).1 in
     write_fault_at old mid new f0 f1 name r.gave r.keeps (same_but o mid new is) (subst (λ (x : Outcome). AtOutcome x r.gave f0 f1) at r.ends)
 
 pub write_fault : (old mid new : WorldState) (f0 f1 : ℕ) (name : List ℕ) (o : Outcome) (n : ℕ) → Ran old mid f0 f1 name o → n ≡ status_of o → new ≡ reported o mid → n ≡ 3 → WriteFaulted old new
@@ -208,7 +220,7 @@ stopped old mid new f0 f1 name o n r status is fault.Read e = inr (read_faulted 
 stopped old mid new f0 f1 name o n r status is fault.Write e = inr (write_faulted old mid new f0 f1 name o n r status is e).1
 stopped old mid new f0 f1 name o n r status is fault.Log e = (log_faulted old mid new f0 f1 name o n r status is e).1
 stopped old mid new f0 f1 name o n r status is fault.NoMemory e =
-    let at : o ≡ outcome.NoMemory = (is_at n 5 o status e).1 in
+    let at : o ≡ outcome.NoMemory = (is_at n 5 old mid f0 f1 name o r status e).1 in
     no_memory_at old mid new f0 f1 name r.gave r.keeps (same_but o mid new is) (subst (λ (x : Outcome). AtOutcome x r.gave f0 f1) at r.ends)
 
 whole_at : (old mid new : WorldState) (f0 f1 : ℕ) (name : List ℕ) (code : Option ℕ) (n : ℕ) (gave : Gave) → KeepsAll gave name old mid → SameButWarned mid new → n ≡ status_of (outcome_at_end code)
@@ -244,8 +256,8 @@ whole_from old mid new f0 f1 name o n code r status is at =
     (subst (λ (x : Outcome). AtOutcome x r.gave f0 f1) at r.ends)
 
 pub whole : (old mid new : WorldState) (f0 f1 : ℕ) (name : List ℕ) (o : Outcome) (n : ℕ) → Ran old mid f0 f1 name o → n ≡ status_of o → new ≡ reported o mid → (n ≡ 0) ⊎ (n ≡ 6) → FinishedRun old new name n
-whole old mid new f0 f1 name o n r status is (inl e) = whole_from old mid new f0 f1 name o n None r status is (is_at n 0 o status e).1
-whole old mid new f0 f1 name o n r status is (inr e) = let b = is_at n 6 o status e in whole_from old mid new f0 f1 name o n (Some b.0) r status is b.1
+whole old mid new f0 f1 name o n r status is (inl e) = whole_from old mid new f0 f1 name o n None r status is (is_at n 0 old mid f0 f1 name o r status e).1
+whole old mid new f0 f1 name o n r status is (inr e) = let b = is_at n 6 old mid f0 f1 name o r status e in whole_from old mid new f0 f1 name o n (Some b.0) r status is b.1
 
 -- a log that was a text of records
 good_at : (old mid new : WorldState) (f0 f1 : ℕ) (name : List ℕ) (o : Outcome) (gave : Gave) → KeepsAll gave name old mid → SameButWarned mid new → ((at : ℕ) → o ≢ outcome.BadLog at) → o ≢ outcome.LogFault → o ≢ outcome.NoMemory
@@ -254,11 +266,12 @@ good_at old mid new f0 f1 name o Nothing keeps same a b m ends = inl (nothing ol
 good_at old mid new f0 f1 name (outcome.BadLog at) (A_log log kept link) keeps same a b m ends = absurd (a at refl)
 good_at old mid new f0 f1 name outcome.LogFault (A_log log kept link) keeps same a b m ends = absurd (b refl)
 good_at old mid new f0 f1 name outcome.NoMemory (A_log log kept link) keeps same a b m ends = absurd (m refl)
-good_at old mid new f0 f1 name outcome.Served (A_log log kept link) keeps same a b m ends = inr (log_of old mid new name log kept link keeps same, (ends.records, ends.had))
+good_at old mid new f0 f1 name outcome.Done (A_log log kept link) keeps same a b m ends = inr (log_of old mid new name log kept link keeps same, (ends.records, ends.had))
 good_at old mid new f0 f1 name outcome.Usage (A_log log kept link) keeps same a b m ends = inr (log_of old mid new name log kept link keeps same, (ends.records, ends.had))
 good_at old mid new f0 f1 name outcome.ReadFault (A_log log kept link) keeps same a b m ends = inr (log_of old mid new name log kept link keeps same, (ends.records, ends.had))
 good_at old mid new f0 f1 name outcome.WriteFault (A_log log kept link) keeps same a b m ends = inr (log_of old mid new name log kept link keeps same, (ends.records, ends.had))
 good_at old mid new f0 f1 name (outcome.Refused code) (A_log log kept link) keeps same a b m ends = inr (log_of old mid new name log kept link keeps same, (ends.records, ends.had))
+good_at old mid new f0 f1 name outcome.PrintFault (A_log log kept link) keeps same a b m ends = inr (log_of old mid new name log kept link keeps same, (ends.records, ends.had))
 good_at old mid new f0 f1 name outcome.CannotOpen (A_log log kept link) keeps same a b m ends = inr (log_of old mid new name log kept link keeps same, (ends.records, ends.had))
 
 pub good_log : (old mid new : WorldState) (f0 f1 : ℕ) (name : List ℕ) (o : Outcome) (n : ℕ) → Ran old mid f0 f1 name o → n ≡ status_of o → new ≡ reported o mid → n ≢ 7 → n ≢ 4 → n ≢ 5 → GoodLog old new name
@@ -273,5 +286,5 @@ not_usage_at (A_log log kept (Some p)) f0 f1 ends = ends.at
 
 pub not_usage : (old mid : WorldState) (f0 f1 : ℕ) (name : List ℕ) (o : Outcome) (n : ℕ) → Ran old mid f0 f1 name o → n ≡ status_of o → n ≡ 1 → ⊥
 not_usage old mid f0 f1 name o n r status e =
-    let at : o ≡ outcome.Usage = (is_at n 1 o status e).1 in
+    let at : o ≡ outcome.Usage = (is_at n 1 old mid f0 f1 name o r status e).1 in
     not_usage_at r.gave f0 f1 (subst (λ (x : Outcome). AtOutcome x r.gave f0 f1) at r.ends)

@@ -114,10 +114,11 @@ opened_part log kept same = headed_part (log.held == 0) log kept (λ e. let f = 
 -- a link was asked for
 linked_at : (o : Outcome) (link : Option (Link × Link)) (log mid kept : Log) (f0 f1 f2 f3 : ℕ) (told : Bool) (old : List Record) → contents_of mid ≡ contents_of (opened log) → log.faults ≤ mid.faults
     → f0 ≤ f1 → f3 ≡ f2 → AtLink o told old link mid kept f1 f2 → AtLink o told old link (opened log) kept f0 f3
-linked_at outcome.Served (Some p) log mid kept f0 f1 f2 f3 told old same le f e is = whole_from told old p.0 p.1 mid (opened log) kept None same is
+linked_at outcome.Done (Some p) log mid kept f0 f1 f2 f3 told old same le f e is = whole_from told old p.0 p.1 mid (opened log) kept None same is
 linked_at (outcome.Refused code) (Some p) log mid kept f0 f1 f2 f3 told old same le f e is = whole_from told old p.0 p.1 mid (opened log) kept (Some code) same is
 linked_at outcome.ReadFault (Some p) log mid kept f0 f1 f2 f3 told old same le f e is = stopped_from fault.Read told old p.0 p.1 mid (opened log) kept same le is
 linked_at outcome.WriteFault (Some p) log mid kept f0 f1 f2 f3 told old same le f e is = stopped_from fault.Write told old p.0 p.1 mid (opened log) kept same le is
+linked_at outcome.PrintFault (Some p) log mid kept f0 f1 f2 f3 told old same le f e is = absurd is
 linked_at outcome.LogFault (Some p) log mid kept f0 f1 f2 f3 told old same le f e is = stopped_from fault.Log told old p.0 p.1 mid (opened log) kept same le is
 linked_at outcome.NoMemory (Some p) log mid kept f0 f1 f2 f3 told old same le f e is = stopped_from fault.NoMemory told old p.0 p.1 mid (opened log) kept same le is
 linked_at outcome.CannotOpen (Some p) log mid kept f0 f1 f2 f3 told old same le f e is = absurd is
@@ -125,24 +126,27 @@ linked_at outcome.Usage (Some p) log mid kept f0 f1 f2 f3 told old same le f e i
 linked_at (outcome.BadLog at) (Some p) log mid kept f0 f1 f2 f3 told old same le f e is = absurd is
 linked_at outcome.CannotOpen None log mid kept f0 f1 f2 f3 told old same le f e is = (subst (Rose f0) (sym e) (rose_from f0 f1 f2 f is.0), is.1 ∙ same)
 linked_at outcome.NoMemory None log mid kept f0 f1 f2 f3 told old same le f e is = is ∙ same
-linked_at outcome.Served None log mid kept f0 f1 f2 f3 told old same le f e is = absurd is
+linked_at outcome.Done None log mid kept f0 f1 f2 f3 told old same le f e is = absurd is
 linked_at (outcome.Refused code) None log mid kept f0 f1 f2 f3 told old same le f e is = absurd is
 linked_at outcome.ReadFault None log mid kept f0 f1 f2 f3 told old same le f e is = absurd is
 linked_at outcome.WriteFault None log mid kept f0 f1 f2 f3 told old same le f e is = absurd is
+linked_at outcome.PrintFault None log mid kept f0 f1 f2 f3 told old same le f e is = absurd is
 linked_at outcome.LogFault None log mid kept f0 f1 f2 f3 told old same le f e is = absurd is
 linked_at outcome.Usage None log mid kept f0 f1 f2 f3 told old same le f e is = absurd is
 linked_at (outcome.BadLog at) None log mid kept f0 f1 f2 f3 told old same le f e is = absurd is
 
 -- what stands then
 at_linked : (o : Outcome) (link : Option (Link × Link)) (log kept : Log) (f0 f1 : ℕ) → Linked o link log kept f0 f1 → AtOutcome o (A_log log kept link) f0 f1
-at_linked outcome.Served (Some p) log kept f0 f1 is = is
-at_linked outcome.Served None log kept f0 f1 is = is
+at_linked outcome.Done (Some p) log kept f0 f1 is = is
+at_linked outcome.Done None log kept f0 f1 is = is
 at_linked (outcome.Refused code) (Some p) log kept f0 f1 is = is
 at_linked (outcome.Refused code) None log kept f0 f1 is = is
 at_linked outcome.ReadFault (Some p) log kept f0 f1 is = is
 at_linked outcome.ReadFault None log kept f0 f1 is = is
 at_linked outcome.WriteFault (Some p) log kept f0 f1 is = is
 at_linked outcome.WriteFault None log kept f0 f1 is = is
+at_linked outcome.PrintFault (Some p) log kept f0 f1 is = is
+at_linked outcome.PrintFault None log kept f0 f1 is = is
 at_linked outcome.LogFault (Some p) log kept f0 f1 is = is
 at_linked outcome.LogFault None log kept f0 f1 is = absurd is.at
 at_linked outcome.NoMemory (Some p) log kept f0 f1 is = is
@@ -165,9 +169,10 @@ pub ends_unopened : (o : Outcome) (log kept : Log) (f0 f1 : ℕ) → Unopened o 
 ends_unopened (outcome.BadLog at) log kept f0 f1 is = is
 ends_unopened outcome.LogFault log kept f0 f1 is = is
 ends_unopened outcome.NoMemory log kept f0 f1 is = is
-ends_unopened outcome.Served log kept f0 f1 is = absurd is
+ends_unopened outcome.Done log kept f0 f1 is = absurd is
 ends_unopened (outcome.Refused code) log kept f0 f1 is = absurd is
 ends_unopened outcome.ReadFault log kept f0 f1 is = absurd is
 ends_unopened outcome.WriteFault log kept f0 f1 is = absurd is
+ends_unopened outcome.PrintFault log kept f0 f1 is = absurd is
 ends_unopened outcome.CannotOpen log kept f0 f1 is = absurd is
 ends_unopened outcome.Usage log kept f0 f1 is = absurd is

@@ -13,3 +13,7 @@ pub mod Opens
 pub mod Ends
 pub mod Clauses
 pub mod Fronts
+pub mod Examples
+pub mod Says
+pub mod HeadReads
+pub mod Lists

@@ -46,7 +46,7 @@ no_bytes [] e = refl
 no_bytes (x ∷ b) e = absurd (omega arith)
 
 -- an empty log has no records
-read_none : (told : Option (List ℕ)) (rs : List Record) → IfSome told (λ b. length b ≡ 0) → rs ≡ [] → IfSome told (λ b. records b ≡ Ok rs)
+pub read_none : (told : Option (List ℕ)) (rs : List Record) → IfSome told (λ b. length b ≡ 0) → rs ≡ [] → IfSome told (λ b. records b ≡ Ok rs)
 unfolding entries
 read_none None rs long none = tt
 read_none (Some b) rs long none = ap records (no_bytes b long) ∙ ap Ok (sym none)
@@ -81,7 +81,7 @@ left_part : (b0 b1 : Option (List ℕ)) (h0 h1 f0 f1 : ℕ) → LeftAs b0 b1 h0 
 left_part b0 b1 h0 h1 f0 f1 (inl same) = inl (ap (λ (b : Option (List ℕ)). contents b h1) same.0 ∙ ap (contents b0) same.1)
 left_part b0 b1 h0 h1 f0 f1 (inr part) = inr (part.0, front_grown b0 b1 h0 h1 header part.1)
 
-left_same : (b0 b1 : Option (List ℕ)) (h0 h1 : ℕ) → 0 < h0 → LeftAs b0 b1 h0 h1 → contents b1 h1 ≡ contents b0 h0
+pub left_same : (b0 b1 : Option (List ℕ)) (h0 h1 : ℕ) → 0 < h0 → LeftAs b0 b1 h0 h1 → contents b1 h1 ≡ contents b0 h0
 left_same b0 b1 h0 h1 some (inl same) = ap (λ (b : Option (List ℕ)). contents b h1) same.0 ∙ ap (contents b0) same.1
 left_same b0 b1 h0 h1 some (inr part) = absurd (let e = part.0 in omega arith)
 

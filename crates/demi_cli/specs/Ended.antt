@@ -15,7 +15,7 @@ use Rattle.demi_cli.specs.Run.{Gave, Nothing, A_log, KeepsAll, HadRecords, Heade
 
 -- the outcome of a run over a link
 abbrev pub outcome_of : Result (Option ℕ) Fault → Outcome
-outcome_of (Ok None) = outcome.Served
+outcome_of (Ok None) = outcome.Done
 outcome_of (Ok (Some code)) = outcome.Refused code
 outcome_of (Err fault.Read) = outcome.ReadFault
 outcome_of (Err fault.Write) = outcome.WriteFault
@@ -37,7 +37,7 @@ Unopened other log kept = ⊥
 
 -- what stands where a link was asked for over a log that was opened, with these records
 abbrev pub AtLink : Outcome → Bool → List Record → Option (Link × Link) → Log → Log → ℕ → ℕ → Type 0
-AtLink outcome.Served told old (Some p) log kept faults0 faults1 = Finished told old p.0 p.1 log kept None
+AtLink outcome.Done told old (Some p) log kept faults0 faults1 = Finished told old p.0 p.1 log kept None
 AtLink (outcome.Refused code) told old (Some p) log kept faults0 faults1 = Finished told old p.0 p.1 log kept (Some code)
 AtLink outcome.ReadFault told old (Some p) log kept faults0 faults1 = Stopped fault.Read told old p.0 p.1 log kept
 AtLink outcome.WriteFault told old (Some p) log kept faults0 faults1 = Stopped fault.Write told old p.0 p.1 log kept

@@ -5,3 +5,8 @@ pub mod Outcome
 pub mod Run
 pub mod Ended
 pub mod Reading
+pub mod Words
+pub mod Lines
+pub mod Saying
+pub mod Heads
+pub mod Listing

@@ -1,26 +1,17 @@
 -- How a run ended: its status and its text.
-use Rattle.std.specs.Prelude.{ℕ, Bool, false, ◌==◌, if◌then◌else◌, List, [], ◌∷◌, ◌++◌, codes, bytes_eq}
+use Rattle.std.specs.Prelude.{ℕ, ◌==◌, if◌then◌else◌, List, [], ◌++◌, codes}
 use Rattle.std.specs.Fmt.{decimal}
 use Rattle.demi_core.specs.World.{WorldState, after_warn}
 use Rattle.demi_cli.specs.declared.outcome.Outcome.{Outcome}
 use Rattle.demi_cli.specs.declared.outcome.Outcome.TheVariants as outcome
 
--- the words are those of `pipe LOG`
-abbrev pub is_pipe : List (List ℕ) → Bool
-is_pipe (command ∷ name ∷ []) = bytes_eq command (codes "pipe")
-is_pipe other = false
-
--- the name of the log
-abbrev pub log_name : List (List ℕ) → List ℕ
-log_name (command ∷ name ∷ rest) = name
-log_name other = []
-
 -- the exit status of an outcome
 abbrev pub status_of : Outcome → ℕ
-status_of outcome.Served = 0
+status_of outcome.Done = 0
 status_of outcome.Usage = 1
 status_of outcome.ReadFault = 2
 status_of outcome.WriteFault = 3
+status_of outcome.PrintFault = 3
 status_of outcome.LogFault = 4
 status_of outcome.NoMemory = 5
 status_of (outcome.Refused code) = 6
@@ -33,10 +24,11 @@ digit code = if code == 1 then codes "1" else if code == 2 then codes "2" else i
 
 -- the warning of an outcome but the first
 abbrev pub text_of : Outcome → List ℕ
-text_of outcome.Served = []
+text_of outcome.Done = []
 text_of outcome.Usage = codes "usage: demi pipe, serve, bench, check or log"
 text_of outcome.ReadFault = codes "demi: read fault on link 0"
 text_of outcome.WriteFault = codes "demi: write fault on link 0"
+text_of outcome.PrintFault = codes "demi: write fault on output"
 text_of outcome.LogFault = codes "demi: log fault"
 text_of outcome.NoMemory = codes "demi: out of memory"
 text_of (outcome.Refused code) = codes "demi: link 0 refused with code " ++ digit code
@@ -45,5 +37,5 @@ text_of outcome.CannotOpen = codes "demi: cannot open"
 
 -- a world that was warned, where there is something to say; what else it tells stays
 abbrev pub reported : Outcome → WorldState → WorldState
-reported outcome.Served w = w
+reported outcome.Done w = w
 reported other w = after_warn w (text_of other)

@@ -73,13 +73,17 @@ SameButWarned mid new = new ≡ record mid { warned = new.warned }
 abbrev pub Keeps : WorldState → WorldState → List ℕ → Type 0
 Keeps old new name = (gave : Gave) × ((mid : WorldState) × KeepsAll gave name old mid × SameButWarned mid new)
 
+-- the outcome that has the status 3 beside the one of this command: what `pipe` writes goes to a link, what others say to the output
+abbrev pub fault_elsewhere : Bool → Outcome
+fault_elsewhere pipe = if pipe then outcome.PrintFault else outcome.WriteFault
+
 -- the last warning is the text of the status, and the status is one of the nine
-abbrev pub Warned : ℕ → WorldState → WorldState → Type 0
-Warned status old new = (o : Outcome) × (status ≡ status_of o) × (new.warned ≡ (reported o old).warned)
+abbrev pub Warned : Bool → ℕ → WorldState → WorldState → Type 0
+Warned pipe status old new = (o : Outcome) × (status ≡ status_of o) × (o ≢ fault_elsewhere pipe) × (new.warned ≡ (reported o old).warned)
 
 -- 0 and 6. The outcome at an end of the input, by the code of a refused frame
 abbrev pub outcome_at_end : Option ℕ → Outcome
-outcome_at_end None = outcome.Served
+outcome_at_end None = outcome.Done
 outcome_at_end (Some code) = outcome.Refused code
 
 -- The input was read to an end, all is answered on the records that the log had, and logged; the status and the warning are those of this

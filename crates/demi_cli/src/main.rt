@@ -1,19 +1,25 @@
 //! The program `demi`, a store that takes framed requests and appends each put to a log.
 //!
 //! [`run`] is all that it does, over any world: what it promises are its clauses. Below it, `serving` answers the
-//! requests of one link, and `reporting` gives each outcome its exit status and its text. The world that `main` makes is
-//! that of `demi_net`: standard input and output, and files.
+//! requests of one link, `tool` does what needs no link, as to list a log, and `reporting` gives each outcome its exit status
+//! and its text. The world that `main` makes is that of `demi_net`: standard input and output, and files.
 //! Not promised: what a real stream or file holds, and that memory is found.
 #![tactic(auto)]
 
 mod answering;
+mod command;
+mod head;
+mod heads;
 mod outcome;
+mod printing;
+mod reading;
 mod replying;
 mod reporting;
 mod running;
 mod serving;
 #[cfg(test)]
 mod tests;
+mod tool;
 
 use crate::running::run;
 use demi_core::{NoMemory, World};

@@ -7,6 +7,7 @@ ghost use Rattle.demi_cli.specs.Outcome.{status_of, text_of, reported, digit};
 use crate::outcome::Outcome;
 use arrayvec::ArrayString;
 use demi_core::World;
+use itoa::Buffer;
 
 // How many bytes a warning has at most.
 const MAX_TEXT_BYTES: usize = 128;
@@ -16,10 +17,10 @@ fn status(outcome: Outcome) -> u8
     ensures { result ≡ status_of outcome }
 {
     match outcome {
-        Outcome::Served => 0,
+        Outcome::Done => 0,
         Outcome::Usage => 1,
         Outcome::ReadFault => 2,
-        Outcome::WriteFault => 3,
+        Outcome::WriteFault | Outcome::PrintFault => 3,
         Outcome::LogFault => 4,
         Outcome::NoMemory => 5,
         Outcome::Refused(_) => 6,
@@ -42,45 +43,13 @@ fn refused_text(code: u8) -> &'static str
     }
 }
 
-// The text of a digit.
-fn digit_text(digit: u64) -> &'static str
-    requires { digit < 10 }
-    ensures { result.now ≡ (48 + digit) ∷ [] }
-{
-    match digit {
-        0 => "0",
-        1 => "1",
-        2 => "2",
-        3 => "3",
-        4 => "4",
-        5 => "5",
-        6 => "6",
-        7 => "7",
-        8 => "8",
-        _ => "9",
-    }
-}
-
-// Adds a number in decimal.
-fn push_decimal(text: &mut ArrayString<MAX_TEXT_BYTES>, number: u64)
-    requires { array_string_len text.old + length (decimal number) ≤ 128 }
-    ensures { text.new.bytes ≡ text.old.bytes ++ decimal number }
-{
-    if number < 10 {
-        text.push_str(digit_text(number));
-        return;
-    }
-    push_decimal(text, number / 10);
-    text.push_str(digit_text(number % 10));
-}
-
 // The text of a log whose first bad byte is this.
 fn bad_log_text(at: u64) -> ArrayString<MAX_TEXT_BYTES>
     ensures { result.bytes ≡ text_of (Outcome.BadLog at) }
 {
     let mut text = ArrayString::new();
     text.push_str("demi: bad log at byte ");
-    push_decimal(&mut text, at);
+    text.push_str(Buffer::new().format(at));
     text
 }
 
@@ -91,10 +60,11 @@ fn text(outcome: Outcome) -> &'static str
     ensures short { length result.now ≤ 128 }
 {
     match outcome {
-        Outcome::Served | Outcome::BadLog(_) => "",
+        Outcome::Done | Outcome::BadLog(_) => "",
         Outcome::Usage => "usage: demi pipe, serve, bench, check or log",
         Outcome::ReadFault => "demi: read fault on link 0",
         Outcome::WriteFault => "demi: write fault on link 0",
+        Outcome::PrintFault => "demi: write fault on output",
         Outcome::LogFault => "demi: log fault",
         Outcome::NoMemory => "demi: out of memory",
         Outcome::Refused(code) => refused_text(code),
@@ -111,7 +81,7 @@ pub fn report<W: World>(world: &mut W, outcome: Outcome) -> u8
     ensures print_faults { W.print_faults world.new ≡ W.print_faults world.old }
 {
     match outcome {
-        Outcome::Served => {}
+        Outcome::Done => {}
         Outcome::BadLog(at) => world.warn(bad_log_text(at).as_str()),
         _ => world.warn(text(outcome)),
     }

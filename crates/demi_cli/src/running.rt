@@ -1,7 +1,9 @@
 ghost use Rattle.std.specs.Prelude.{◌≡◌, ◌+◌, ◌≤◌, [], List, ℕ, Option, Some, None, Bool, true, false, map, string_bytes, MatchOption, IfOk, OnErr, IsErrOf, ◌∷◌, ◌++◌, ◌↔◌, ◌≢◌, ◌⊎◌, IfErr, length};
 ghost use Rattle.demi_core.specs.Outside.{Rose};
 ghost use Rattle.demi_core.specs.World.{Link, Log, WorldState, after_links, after_warn};
-ghost use Rattle.demi_cli.specs.Outcome.{is_pipe, log_name, reported, status_of};
+ghost use Rattle.demi_cli.specs.Outcome.{reported};
+ghost use Rattle.demi_cli.specs.Words.{is_command, is_log, is_pipe, log_name};
+ghost use Rattle.demi_cli.specs.Listing.{Listing};
 ghost use Rattle.demi_cli.specs.declared.serving.Fault.{Fault};
 ghost use Rattle.demi_cli.specs.Reading.{ReadsOnlyWhatIsDue, RunReads};
 ghost use Rattle.demi_cli.specs.Steps.{IsReady};
@@ -11,12 +13,14 @@ ghost use Rattle.demi_logq.specs.Items.{tells};
 ghost use Rattle.demi_cli.specs.Ended.{AtLink, Ran, Unopened, outcome_of, refused_as};
 ghost use Rattle.demi_cli.specs.Run.{with_link, Keeps, CannotOpen, BadLog, GoodLog, HadRecords, opened, LogFaulted, ReadFaulted, WriteFaulted, FinishedRun, NoLink, Unlinked, StoppedRun, FrontRun, status_of_fault, Warned};
 
-use crate::outcome::Outcome;
+use crate::command::Command;
+use crate::outcome::{Outcome, refused};
 use crate::reporting::report;
 use crate::serving::{Fault, serve};
+use crate::tool::tool;
 use demi_core::{Disk, Halt, Site, World};
 use demi_frame::Decoder;
-use demi_logq::{Log, LogRefusal};
+use demi_logq::Log;
 use demi_store::StoreCore;
 use std::alloc::{AllocError, Global};
 
@@ -58,7 +62,7 @@ fn outcome_of(end: Result<Option<u8>, Fault>) -> Outcome
     ensures { result ≡ outcome_of end }
 {
     match end {
-        Ok(None) => Outcome::Served,
+        Ok(None) => Outcome::Done,
         Ok(Some(code)) => Outcome::Refused(code),
         Err(Fault::Read) => Outcome::ReadFault,
         Err(Fault::Write) => Outcome::WriteFault,
@@ -72,20 +76,6 @@ fn room_of(alloc: Global, size: usize) -> Result<Vec<u8>, AllocError>
     ensures { IfOk result (λ room. length room.items ≡ size) }
 {
     Vec::from_elem(alloc, 0, size)
-}
-
-// The outcome of a log that is refused at its opening.
-fn refused(refusal: LogRefusal) -> Outcome
-    requires { (refusal ≢ LogRefusal.Full) × (refusal ≢ LogRefusal.Broken) }
-    ensures { result ≡ refused_as refusal }
-{
-    match refusal {
-        LogRefusal::Failed => Outcome::LogFault,
-        LogRefusal::NoMemory => Outcome::NoMemory,
-        LogRefusal::BadLog(at) => Outcome::BadLog(at),
-        // No opening is refused so.
-        LogRefusal::Full | LogRefusal::Broken => unreachable!(),
-    }
 }
 
 // A store over a disk: an empty one gets its header.
@@ -167,31 +157,17 @@ fn pipe<W: World>(alloc: Global, name: &str, world: &mut W) -> Outcome
     outcome
 }
 
-// The log of the words `pipe LOG`.
-fn pipe_log(words: &Vec<String>) -> Option<&str>
-    ensures { MatchOption result (is_pipe (map string_bytes words.now.items) ≡ false) (λ name.
-        (is_pipe (map string_bytes words.now.items) ≡ true) × (name.now ≡ log_name (map string_bytes words.now.items))) }
-{
-    if words.len() != 2 {
-        return None;
-    }
-    if words[0].as_str() != "pipe" {
-        return None;
-    }
-    Some(words[1].as_str())
-}
-
 /// Runs the program on its words, and gives its exit status.
 ///
 /// `pipe LOG` opens the log and reads its records, takes one link at standard input and output, and reads, answers and logs one request
-/// after another on top of these records, to the end frame, the refused frame or the end of the input. Any other words are no command. Whatever the
-/// status, the world keeps the log and the link that it gave.
+/// after another on top of these records, to the end frame, the refused frame or the end of the input. `log NAME` is [`tool`]'s. Any other
+/// words are no command. Whatever the status, the world keeps the log and the link that it gave.
 ///
 /// | status | comes |
 /// |---|---|
-/// | 0 | the input ended by an end frame or clean, and all of it is answered and logged |
+/// | 0 | the input ended by an end frame or clean, and all of it is answered and logged; or the lines of a log were said |
 /// | 1 | exactly where the words are no command; the world is as it was, but for the warning |
-/// | 2, 3 | only where the count of faults of the link's source, of its sink, rose |
+/// | 2, 3 | only where the count of faults of the link's source, of its sink, rose; 3 also where the world's count of print faults rose |
 /// | 4 | only where the count of the log rose |
 /// | 5 | memory was refused |
 /// | 6 | the input has a refused frame, and all before it is answered and logged |
@@ -204,7 +180,7 @@ fn pipe_log(words: &Vec<String>) -> Option<&str>
 ///
 /// Not promised: that memory is found.
 pub fn run<W: World>(alloc: Global, words: &Vec<String>, world: &mut W) -> u8
-    ensures usage { (result ≡ 1) ↔ (is_pipe (map string_bytes words.now.items) ≡ false) }
+    ensures usage { (result ≡ 1) ↔ (is_command (map string_bytes words.now.items) ≡ false) }
     ensures untouched { result ≡ 1 → W.state world.new ≡ reported Outcome.Usage (W.state world.old) }
     ensures keeps { is_pipe (map string_bytes words.now.items) ≡ true → Keeps (W.state world.old) (W.state world.new) (log_name (map string_bytes words.now.items)) }
     ensures cannot_open { result ≡ 8 → CannotOpen (W.state world.old) (W.state world.new) (log_name (map string_bytes words.now.items)) (W.faults world.old) (W.faults world.new) }
@@ -212,19 +188,22 @@ pub fn run<W: World>(alloc: Global, words: &Vec<String>, world: &mut W) -> u8
     ensures good_log { result ≢ 7 → result ≢ 4 → result ≢ 5 → GoodLog (W.state world.old) (W.state world.new) (log_name (map string_bytes words.now.items)) }
     ensures log_fault { result ≡ 4 → LogFaulted (W.state world.old) (W.state world.new) (log_name (map string_bytes words.now.items)) }
     ensures read_fault { result ≡ 2 → ReadFaulted (W.state world.old) (W.state world.new) }
-    ensures write_fault { result ≡ 3 → WriteFaulted (W.state world.old) (W.state world.new) }
-    ensures whole { (result ≡ 0) ⊎ (result ≡ 6) → FinishedRun (W.state world.old) (W.state world.new) (log_name (map string_bytes words.now.items)) result }
-    ensures stopped { (fault : Fault) → result ≡ status_of_fault fault
+    ensures write_fault { is_pipe (map string_bytes words.now.items) ≡ true → result ≡ 3 → WriteFaulted (W.state world.old) (W.state world.new) }
+    ensures whole { is_pipe (map string_bytes words.now.items) ≡ true → (result ≡ 0) ⊎ (result ≡ 6) → FinishedRun (W.state world.old) (W.state world.new) (log_name (map string_bytes words.now.items)) result }
+    ensures stopped { is_pipe (map string_bytes words.now.items) ≡ true → (fault : Fault) → result ≡ status_of_fault fault
         → Unlinked fault (W.state world.old) (W.state world.new) (log_name (map string_bytes words.now.items))
         ⊎ StoppedRun fault (W.state world.old) (W.state world.new) (log_name (map string_bytes words.now.items)) }
     ensures front { (fault : Fault) → result ≡ status_of_fault fault → NoLink (W.state world.old) (W.state world.new) ⊎ FrontRun (W.state world.old) (W.state world.new) (log_name (map string_bytes words.now.items)) }
     ensures reads { RunReads W.In.reads W.In.taken W.In.left W.In.faults (W.next_source world.old) (W.kept_source world.new) (W.state world.old) (W.state world.new) (log_name (map string_bytes words.now.items)) }
-    ensures said { (W.state world.new).said ≡ (W.state world.old).said }
-    ensures print_faults { W.print_faults world.new ≡ W.print_faults world.old }
-    ensures warned { Warned result (W.state world.old) (W.state world.new) }
+    ensures listing { is_log (map string_bytes words.now.items) ≡ true → Listing result (W.state world.old) (W.state world.new) (log_name (map string_bytes words.now.items)) (W.print_faults world.old) (W.print_faults world.new) }
+    ensures said { is_log (map string_bytes words.now.items) ≡ false → (W.state world.new).said ≡ (W.state world.old).said }
+    ensures print_faults { is_pipe (map string_bytes words.now.items) ≡ true → W.print_faults world.new ≡ W.print_faults world.old }
+    ensures warned { Warned (is_pipe (map string_bytes words.now.items)) result (W.state world.old) (W.state world.new) }
 {
-    let Some(name) = pipe_log(words) else {
-        return report(world, Outcome::Usage);
+    let name = match Command::from_words(words) {
+        Some(Command::Pipe(name)) => name,
+        Some(Command::Log(_)) => return tool(alloc, words, world),
+        None => return report(world, Outcome::Usage),
     };
     let outcome = pipe(alloc, name, world);
     report(world, outcome)

@@ -3,4 +3,5 @@ mod answers;
 mod existing_logs;
 mod faults;
 mod in_memory;
+mod listed_logs;
 mod whole_runs;

@@ -1,3 +1,5 @@
+ghost use Rattle.std.specs.Prelude.{◌≡◌, ◌≤◌, length, drop, vec_capacity};
+
 use crate::head::{Found, Kind, found_at};
 use demi_core::NoMemory;
 use std::alloc::Global;
@@ -34,6 +36,20 @@ pub struct Decoder {
     last: Option<Kind>,
     stop: Option<Step>,
     hungry: bool,
+}
+
+// Keeps what stands from a place on. A drain would turn the whole room round for it.
+fn keep_from(room: &mut Vec<u8>, from: usize)
+    requires { from ≤ length room.old.items }
+    ensures items { room.new.items ≡ drop from room.old.items }
+    ensures capacity { vec_capacity room.new ≡ vec_capacity room.old }
+{
+    if from == 0 {
+        return;
+    }
+    let rest = room.len() - from;
+    room.copy_within(from.., 0);
+    room.truncate(rest);
 }
 
 impl Model for Decoder {
@@ -89,7 +105,7 @@ impl Decoder {
         ensures fed { self.new ≡ after_feed self.old (take result piece.now) }
         ensures whole { IsTrue self.old.hungry → length piece.now ≤ 4096 → result ≡ length piece.now }
     {
-        self.room.drain(..self.from);
+        keep_from(&mut self.room, self.from);
         self.from = 0;
         self.key = 0;
         self.value = 0;

@@ -1,16 +1,17 @@
-ghost use Rattle.std.specs.Prelude.{◌≡◌, ◌+◌, ◌≤◌, ◌^◌, None, IfSome, IsTrue, length, refl};
+ghost use Rattle.std.specs.Prelude.{◌≡◌, ◌+◌, ◌≤◌, ◌^◌, None, IfOk, IfSome, IsTrue, length, refl};
 ghost use mathlib.Core.Path.{◌∙◌};
 
 use crate::once::{read_once_at, write_once_at};
-use demi_core::{Disk, Failed};
+use demi_core::{Disk, Failed, Halt};
+use std::alloc::Global;
 use std::fs::{File, OpenOptions};
 use std::os::fd::AsRawFd;
 
 // How many bytes a disk holds at most.
 const MAX_HELD_BYTES: u64 = 1 << 40;
 
-// How many bytes one read takes at most.
-const READ_BYTES: usize = 8192;
+// How many bytes one read takes at most: a largest entry of a log with its length, so that each value is one read.
+const READ_BYTES: usize = 65_802;
 
 // The descriptors below this one are those of the standard streams.
 const FIRST_FREE_DESCRIPTOR: i32 = 3;
@@ -24,31 +25,49 @@ pub struct FileLog {
     file: File,
     held_bytes: u64,
     faults: u64,
+    // Here a read of the system writes first: what it leaves of a room behind what it read is not promised.
+    piece: Vec<u8>,
     ghost most: { held_bytes ≤ 2 ^ 40 },
+}
+
+// The file of that name, locked, and how many bytes it holds.
+fn open_locked(rt: &HostRuntime, name: &str) -> Option<(File, u64)>
+    ensures { IfSome result (λ p. p.1 ≤ 2 ^ 40) }
+{
+    let mut options = OpenOptions::new();
+    options.read(true).write(true).create(true);
+    let file = options.open(rt, name).ok()?;
+    if file.try_lock().is_err() {
+        return None;
+    }
+    let held_bytes = file.metadata().ok()?.len();
+    if held_bytes > MAX_HELD_BYTES || file.as_raw_fd() < FIRST_FREE_DESCRIPTOR {
+        return None;
+    }
+    Some((file, held_bytes))
 }
 
 impl FileLog {
     /// The file of that name, made empty where there is none, and locked as long as it is open: two writers would tear
-    /// each other's log. None at an error, of a file that another opening has locked or that is above 2^40 bytes, and
+    /// each other's log. All memory that its calls need is taken here, before the file is touched.
+    ///
+    /// `NoMemory`; or `Failed` at an error, of a file that another opening has locked or that is above 2^40 bytes, and
     /// where the file would get the descriptor of a standard stream that is closed: what is meant for that stream would
     /// go into the log, and what stands in the log would come as input.
-    pub fn open(rt: &HostRuntime, name: &str) -> Option<FileLog>
-        ensures { IfSome result (λ log. ⟦<FileLog as Disk>⟧.faults log ≡ 0) }
+    pub fn open(rt: &HostRuntime, alloc: Global, name: &str) -> Result<FileLog, Halt>
+        ensures { IfOk result (λ log. ⟦<FileLog as Disk>⟧.faults log ≡ 0) }
     {
-        let mut options = OpenOptions::new();
-        options.read(true).write(true).create(true);
-        let file = options.open(rt, name).ok()?;
-        if file.try_lock().is_err() {
-            return None;
-        }
-        let held_bytes = file.metadata().ok()?.len();
-        if held_bytes > MAX_HELD_BYTES || file.as_raw_fd() < FIRST_FREE_DESCRIPTOR {
-            return None;
-        }
-        Some(FileLog {
+        let Ok(piece) = Vec::from_elem(alloc, 0, READ_BYTES) else {
+            return Err(Halt::NoMemory);
+        };
+        let Some((file, held_bytes)) = open_locked(rt, name) else {
+            return Err(Halt::Failed);
+        };
+        Ok(FileLog {
             file,
             held_bytes,
             faults: 0,
+            piece,
         })
     }
 
@@ -97,8 +116,8 @@ impl Disk for FileLog {
         if at >= self.held_bytes {
             return Ok(0);
         }
-        let mut piece = [0u8; READ_BYTES];
-        let most = room.len().min(READ_BYTES);
+        let piece = self.piece.as_mut_slice();
+        let most = room.len().min(piece.len());
         let most = (self.held_bytes - at).min(most as u64) as usize;
         match read_once_at(&self.file, &mut piece[..most], at) {
             Some(count) => {

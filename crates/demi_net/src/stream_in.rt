@@ -16,6 +16,8 @@ pub struct StreamIn {
     stdin: Stdin,
     given_bytes: u64,
     faults: u64,
+    // Here a read of the system writes first: what it leaves of a room behind what it read is not promised.
+    piece: [u8; READ_BYTES],
     ghost most: { given_bytes ≤ 2 ^ 34 },
 }
 
@@ -30,6 +32,7 @@ impl StreamIn {
             stdin,
             given_bytes: 0,
             faults: 0,
+            piece: [0; READ_BYTES],
         }
     }
 
@@ -61,8 +64,8 @@ impl Source for StreamIn {
     ghost told_bytes = { λ s. tt };
 
     fn read(&mut self, room: &mut [u8]) -> Result<usize, Failed> {
-        let mut piece = [0u8; READ_BYTES];
-        let most = room.len().min(READ_BYTES);
+        let piece = &mut self.piece[..];
+        let most = room.len().min(piece.len());
         if self.given_bytes < MAX_GIVEN_BYTES {
             let most = (MAX_GIVEN_BYTES - self.given_bytes).min(most as u64) as usize;
             if let Some(count) = read_once(&mut self.stdin, &mut piece[..most]) {

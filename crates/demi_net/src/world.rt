@@ -102,13 +102,17 @@ impl World for RealWorld {
     /// name in a folder that is not there, a file that is open as a log already, here or in another process, a file above
     /// 2^40 bytes, and any file while a standard stream is closed give `Failed`.
     fn log(&mut self, alloc: Global, name: &str) -> Result<FileLog, Halt> {
-        let _ = alloc;
-        let Some(log) = FileLog::open(&self.rt, name) else {
-            self.faults = self.faults.saturating_add(1);
-            return Err(Halt::Failed);
-        };
-        self.past = self.past.log_given(name.as_bytes(), log.held_bytes());
-        Ok(log)
+        match FileLog::open(&self.rt, alloc, name) {
+            Ok(log) => {
+                self.past = self.past.log_given(name.as_bytes(), log.held_bytes());
+                Ok(log)
+            }
+            Err(Halt::Failed) => {
+                self.faults = self.faults.saturating_add(1);
+                Err(Halt::Failed)
+            }
+            Err(Halt::NoMemory) => Err(Halt::NoMemory),
+        }
     }
 
     fn keep_log(&mut self, name: &str, log: FileLog) {

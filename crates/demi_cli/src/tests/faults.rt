@@ -20,6 +20,7 @@ fn faulty(
     let left = run_of(alloc, &["pipe", "L"], &faults)?;
     let Left {
         status,
+        said: _,
         warned,
         output,
         log,

@@ -1,4 +1,4 @@
-// Runs of `pipe` over a world in memory.
+// Runs over a world in memory.
 use crate::running::run;
 use demi_core::{MemDisk, MemSink, MemSource, MemWorld};
 use std::alloc::Global;
@@ -14,12 +14,15 @@ pub struct Setup<'a> {
     pub failing_writes: &'a [u64],
     pub failing_appends: &'a [u64],
     pub failing_looks: &'a [u64],
+    // How many bytes are printed at most.
+    pub print_room: usize,
 }
 
 // What it left.
 #[derive(Drop)]
 pub struct Left {
     pub status: u8,
+    pub said: Vec<u8>,
     pub warned: Vec<u8>,
     pub output: Vec<u8>,
     pub log: Vec<u8>,
@@ -36,6 +39,7 @@ pub fn on_an_empty_log(input: &[u8]) -> Setup<'_> {
         failing_writes: &[],
         failing_appends: &[],
         failing_looks: &[],
+        print_room: 100_000,
     }
 }
 
@@ -65,7 +69,7 @@ fn world_of(alloc: Global, setup: &Setup) -> Result<MemWorld, Fail> {
     disk.fail_reads(setup.failing_looks.to_vec(alloc)?);
     let mut logs = Vec::new(alloc);
     logs.push(("L".to_string(alloc)?, disk))?;
-    Ok(MemWorld::make(alloc, links, logs, 100, Vec::new(alloc))?)
+    Ok(MemWorld::make(alloc, links, logs, setup.print_room, Vec::new(alloc))?)
 }
 
 pub fn run_of(alloc: Global, words: &[&str], setup: &Setup) -> Result<Left, Fail> {
@@ -82,6 +86,7 @@ pub fn run_of(alloc: Global, words: &[&str], setup: &Setup) -> Result<Left, Fail
     };
     Ok(Left {
         status,
+        said: world.said().as_bytes().to_vec(alloc)?,
         warned: world.warned().as_bytes().to_vec(alloc)?,
         output: output.to_vec(alloc)?,
         log: log.to_vec(alloc)?,
