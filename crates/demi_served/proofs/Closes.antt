@@ -12,7 +12,6 @@ use Rattle.demi_spec.specs.Request.{Put, Get, End}
 use Rattle.demi_spec.specs.Input.{Asked, Request_of, Refused_end}
 use Rattle.demi_spec.specs.Record.{Record}
 use Rattle.demi_spec.specs.Reply.{Reply}
-use Rattle.demi_store.specs.History.{Told}
 use Rattle.demi_store.specs.Laws.{StoreBasis}
 use Rattle.demi_store.specs.declared.ask.StoreAsk.{StoreAsk}
 use Rattle.demi_store.specs.declared.told.StoreTold.{StoreTold}
@@ -23,7 +22,7 @@ use Rattle.demi_served.specs.Accounts.{StoreEntry, asks_at, IsAccounted, IsNoSto
 use Rattle.demi_served.specs.Keeps.{Draw, Worker, IsDrawn, IsOfDraw, IsFurther, IsLaterAsk, WorkerKeeps, Link, LinkKeeps, of_link, numbered, IsReplied, RepliesKeep}
 use Rattle.demi_served.specs.Ends.{IsForOwn, IsKeptBy, IsTalkOf, StoreEnds}
 use Rattle.demi_served.proofs.Lists.{some_is, all_at, all_by, placed_at, pairwise_at, get_left}
-use Rattle.demi_served.proofs.Steady.{closed_said}
+use Rattle.demi_served.proofs.Steady.{closed_told}
 use Rattle.demi_served.proofs.Entries.{get_elem, entry_of, all_of_pass, pairs_of_pass}
 
 -- within the list there is an element
@@ -244,7 +243,7 @@ module _ (b : StoreBasis) (end : Trail StoreAsk StoreTold) (history : List Store
           worker = sym is;
           sequence = a.sequence;
           asks = a.asks;
-          said = closed_said b w.known end (says history) h.0 (Told r.answer) ends.closed.heard pass.1 a.low a.said;
+          said = closed_told b w.known end (says history) h.0 r.answer ends.closed.heard pass.1 a.low a.said;
         },
       )
 
@@ -279,7 +278,6 @@ module _ (b : StoreBasis) (end : Trail StoreAsk StoreTold) (history : List Store
   accounted = record {
     old = ends.old;
     limit = ends.limit;
-    told = ends.told;
     logged = ends.logged;
     puts = put_asked;
     once = put_once;

@@ -86,7 +86,6 @@ module _ (heap : HeapId) where
   a_session_ends = record {
     old = refl;
     limit = refl;
-    told = refl;
     logged = record { extra = []; all = refl; left = inl refl };
     closed = record {
       heard = refl;
@@ -115,12 +114,12 @@ module _ (heap : HeapId) where
             refl,
             omega arith,
             (omega arith, refl),
-            (0, record { token = 0; asked = put; submitted = inl refl; sequence = refl; asks = refl; said = record { asked = put; here = refl; result = refl }; low = omega arith }),
+            (0, record { token = 0; asked = put; submitted = inl refl; sequence = refl; asks = refl; said = (Stored 1 (0x31 ∷ []), record { asked = put; here = refl; result = refl }, refl); low = omega arith }),
             (
               refl,
               omega arith,
               (omega arith, refl),
-              (1, record { token = 1; asked = get; submitted = inr (inl refl); sequence = refl; asks = refl; said = record { asked = get; here = refl; result = refl }; low = omega arith }),
+              (1, record { token = 1; asked = get; submitted = inr (inl refl); sequence = refl; asks = refl; said = (Found 1 (0x31 ∷ []), record { asked = get; here = refl; result = refl }, (0x31 ∷ [], refl, refl)); low = omega arith }),
               (refl, omega arith, (omega arith, refl), refl, tt),
             ),
           );
@@ -139,7 +138,7 @@ module _ (heap : HeapId) where
   it_is_accounted = accounted base end history (worker ∷ []) (link ∷ []) run (talk ∷ []) a_session_ends
 
   pub it_is_in_order : replies ≡ (serial [] 5 asks).replies
-  it_is_in_order = serial_all base end history worker link run talk a_session_ends asked_all refl
+  it_is_in_order = serial_all base end history worker link run talk a_session_ends refl asked_all refl
 
 -- by computing
 the_same_computes : replies ≡ (serial [] 5 asks).replies

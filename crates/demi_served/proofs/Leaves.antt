@@ -33,7 +33,7 @@ stops_keep limit f place s (x ∷ stops) h =
     go None = refl
     go (Some at) = refl
 
-module _ (b : StoreBasis) (history : List StoreEntry) (trail : List (ℕ × StoreTold)) (alone : (p : ℕ) (e : StoreEntry) → slice_get history p ≡ Some e → e.0 ≡ 0)
+module _ (b : StoreBasis) (history : List StoreEntry) (trail : List (ℕ × StoreTold)) (told : b.told ≡ true) (alone : (p : ℕ) (e : StoreEntry) → slice_get history p ≡ Some e → e.0 ≡ 0)
     (rises : (p q : ℕ) (x y : StoreEntry) → p < q → slice_get history p ≡ Some x → slice_get history q ≡ Some y → x.0 ≡ y.0 → IsLater x.1.1 y.1.1) (stops : List Numbered) (are_stops : AllByRecursion (λ x. x.ask ≡ Stops) stops) where
   abbrev pub all_asks : List Ask
   all_asks = asked_in (says history)
@@ -42,7 +42,7 @@ module _ (b : StoreBasis) (history : List StoreEntry) (trail : List (ℕ × Stor
   final = standing_from b.limit (struck_at trail) 0 (opened b.records) all_asks
 
   abbrev pub at : ℕ → Standing
-  at p = before b history trail alone rises stops p
+  at p = before b history trail told alone rises stops p
 
   at_end : (p : ℕ) → drop p all_asks ≡ wants stops → final.records ≡ (at p).records
   at_end p rest =
@@ -58,8 +58,8 @@ module _ (b : StoreBasis) (history : List StoreEntry) (trail : List (ℕ × Stor
 
   pub records_in_order : (i p : ℕ) (qs : List Asked) (rs : List Reply)
       → drop p all_asks ≡ wants (asked_with (i + 1) (numbered 0 i qs) ++ stops)
-      → SaidFrom b history trail alone rises stops p (asked_with (i + 1) (numbered 0 i qs) ++ stops)
-      → RepliesFrom b history trail alone rises stops i qs rs → length rs ≡ length qs
+      → SaidFrom b history trail told alone rises stops p (asked_with (i + 1) (numbered 0 i qs) ++ stops)
+      → RepliesFrom b history trail told alone rises stops i qs rs → length rs ≡ length qs
       → final.records ≡ (at p).records ++ (serial_from i (at p).records b.limit qs).records
   records_in_order i p [] rs rest said h long = at_end p rest ∙ sym (append-nil (at p).records)
   records_in_order i p (q ∷ qs) [] rest said h long = absurd (omega (arith, long))
@@ -72,8 +72,10 @@ module _ (b : StoreBasis) (history : List StoreEntry) (trail : List (ℕ × Stor
 
       go : (o : Option Ask) → ask_of 0 i q ≡ o
           → drop p all_asks ≡ wants (with_ask (i + 1) o (asked_with (i + 1 + 1) (numbered 0 (i + 1) qs)) ++ stops)
-          → SaidFrom b history trail alone rises stops p (with_ask (i + 1) o (asked_with (i + 1 + 1) (numbered 0 (i + 1) qs)) ++ stops) → IsAccounted b history trail q r o
-          → ((m : ℕ) → drop m all_asks ≡ wants (asked_with (i + 1 + 1) (numbered 0 (i + 1) qs) ++ stops) → SaidFrom b history trail alone rises stops m (asked_with (i + 1 + 1) (numbered 0 (i + 1) qs) ++ stops) → final.records ≡ (at m).records ++ (serial_from (i + 1) (at m).records b.limit qs).records)
+          → SaidFrom b history trail told alone rises stops p
+          (with_ask (i + 1) o (asked_with (i + 1 + 1) (numbered 0 (i + 1) qs)) ++ stops)
+          → IsAccounted b history trail q r o
+          → ((m : ℕ) → drop m all_asks ≡ wants (asked_with (i + 1 + 1) (numbered 0 (i + 1) qs) ++ stops) → SaidFrom b history trail told alone rises stops m (asked_with (i + 1 + 1) (numbered 0 (i + 1) qs) ++ stops) → final.records ≡ (at m).records ++ (serial_from (i + 1) (at m).records b.limit qs).records)
           → final.records ≡ (at p).records ++ (serial_from i (at p).records b.limit (q ∷ qs)).records
       go None none rest said acc again =
           let plain = plain_step i b.limit q (at p).records none in
@@ -81,7 +83,7 @@ module _ (b : StoreBasis) (history : List StoreEntry) (trail : List (ℕ × Stor
       go (Some ask) some rest said acc again =
           let zero_more : p + 0 ≡ p = omega arith in
           let here : slice_get (asked_by (says history)) p ≡ Some (record { sequence = i + 1; ask = ask }) = ap (slice_get (asked_by (says history))) (sym zero_more) ∙ said 0 (record { sequence = i + 1; ask = ask }) refl in
-          let step = asked_step b history trail alone rises stops i p q r ask some here h.1 acc in
+          let step = asked_step b history trail told alone rises stops i p q r ask some here h.1 acc in
           join (at p).records (at (p + 1)).records (added (at p).records b.limit 0 i q) step.1
           (again (p + 1) (drop_next all_asks p ask (wants (asked_with (i + 1 + 1) (numbered 0 (i + 1) qs) ++ stops)) rest) (λ j x e. (let n : p + 1 + j ≡ p + suc j = omega arith in ap (slice_get (asked_by (says history))) n ∙ said (suc j) x e)))
 
@@ -174,13 +176,13 @@ serial_push i limit records (x ∷ qs) q =
     ap (λ (l : List Record). new ++ l) (serial_push (i + 1) limit (records ++ new) qs q ∙ ap (λ m. more ++ added (records ++ new ++ more) limit 0 m q) n ∙ ap (λ (l : List Record). more ++ added l limit 0 (i + length (x ∷ qs)) q) (append_assoc records new more))
     ∙ sym (append_assoc new more (added (records ++ (new ++ more)) limit 0 (i + length (x ∷ qs)) q))
 
-module _ (b : StoreBasis) (history : List StoreEntry) (trail : List (ℕ × StoreTold)) (alone : (p : ℕ) (e : StoreEntry) → slice_get history p ≡ Some e → e.0 ≡ 0)
+module _ (b : StoreBasis) (history : List StoreEntry) (trail : List (ℕ × StoreTold)) (told : b.told ≡ true) (alone : (p : ℕ) (e : StoreEntry) → slice_get history p ≡ Some e → e.0 ≡ 0)
     (rises : (p q : ℕ) (x y : StoreEntry) → p < q → slice_get history p ≡ Some x → slice_get history q ≡ Some y → x.0 ≡ y.0 → IsLater x.1.1 y.1.1) (stops : List Numbered) (are_stops : AllByRecursion (λ x. x.ask ≡ Stops) stops) where
   abbrev pub asks_all : List Ask
   asks_all = asked_in (says history)
 
   abbrev pub stand : ℕ → Standing
-  stand p = before b history trail alone rises stops p
+  stand p = before b history trail told alone rises stops p
 
   -- where the first requests have their replies, what stands behind them and what is asked then
   pub record Reached (i : ℕ) (start : List Record) (qs tail : List Asked) : Type 0 where
@@ -191,8 +193,8 @@ module _ (b : StoreBasis) (history : List StoreEntry) (trail : List (ℕ × Stor
 
   pub reach : (i p : ℕ) (qs tail : List Asked) (rs : List Reply) → (stand p).fault ≡ None
       → drop p asks_all ≡ wants (asked_with (i + 1) (numbered 0 i (qs ++ tail)) ++ stops)
-      → SaidFrom b history trail alone rises stops p (asked_with (i + 1) (numbered 0 i (qs ++ tail)) ++ stops)
-      → RepliesFrom b history trail alone rises stops i qs rs → length rs ≡ length qs
+      → SaidFrom b history trail told alone rises stops p (asked_with (i + 1) (numbered 0 i (qs ++ tail)) ++ stops)
+      → RepliesFrom b history trail told alone rises stops i qs rs → length rs ≡ length qs
       → Reached i (stand p).records qs tail
   reach i p [] tail rs calm rest said h long =
       let n : i ≡ i + 0 = omega arith in
@@ -215,8 +217,10 @@ module _ (b : StoreBasis) (history : List StoreEntry) (trail : List (ℕ × Stor
 
       go : (o : Option Ask) → ask_of 0 i q ≡ o
           → drop p asks_all ≡ wants (with_ask (i + 1) o (asked_with (i + 1 + 1) (numbered 0 (i + 1) (qs ++ tail))) ++ stops)
-          → SaidFrom b history trail alone rises stops p (with_ask (i + 1) o (asked_with (i + 1 + 1) (numbered 0 (i + 1) (qs ++ tail))) ++ stops) → IsAccounted b history trail q r o
-          → ((m : ℕ) → (stand m).fault ≡ None → drop m asks_all ≡ wants (asked_with (i + 1 + 1) (numbered 0 (i + 1) (qs ++ tail)) ++ stops) → SaidFrom b history trail alone rises stops m (asked_with (i + 1 + 1) (numbered 0 (i + 1) (qs ++ tail)) ++ stops) → Reached (i + 1) (stand m).records qs tail)
+          → SaidFrom b history trail told alone rises stops p
+          (with_ask (i + 1) o (asked_with (i + 1 + 1) (numbered 0 (i + 1) (qs ++ tail))) ++ stops)
+          → IsAccounted b history trail q r o
+          → ((m : ℕ) → (stand m).fault ≡ None → drop m asks_all ≡ wants (asked_with (i + 1 + 1) (numbered 0 (i + 1) (qs ++ tail)) ++ stops) → SaidFrom b history trail told alone rises stops m (asked_with (i + 1 + 1) (numbered 0 (i + 1) (qs ++ tail)) ++ stops) → Reached (i + 1) (stand m).records qs tail)
           → Reached i (stand p).records (q ∷ qs) tail
       go None none rest said acc again =
           let plain = plain_step i b.limit q (stand p).records none in
@@ -224,7 +228,7 @@ module _ (b : StoreBasis) (history : List StoreEntry) (trail : List (ℕ × Stor
       go (Some ask) some rest said acc again =
           let zero_more : p + 0 ≡ p = omega arith in
           let here : slice_get (asked_by (says history)) p ≡ Some (record { sequence = i + 1; ask = ask }) = ap (slice_get (asked_by (says history))) (sym zero_more) ∙ said 0 (record { sequence = i + 1; ask = ask }) refl in
-          let step = asked_step b history trail alone rises stops i p q r ask some here h.1 acc in
-          let still = step_calm b history trail alone rises stops i p q r ask some here h.1 acc calm in
+          let step = asked_step b history trail told alone rises stops i p q r ask some here h.1 acc in
+          let still = step_calm b history trail told alone rises stops i p q r ask some here h.1 acc calm in
           on (stand p).records (stand (p + 1)).records step.1
-          (again (p + 1) still (drop_next b history trail alone rises stops are_stops asks_all p ask (wants (asked_with (i + 1 + 1) (numbered 0 (i + 1) (qs ++ tail)) ++ stops)) rest) (λ j x e. (let n : p + 1 + j ≡ p + suc j = omega arith in ap (slice_get (asked_by (says history))) n ∙ said (suc j) x e)))
+          (again (p + 1) still (drop_next b history trail told alone rises stops are_stops asks_all p ask (wants (asked_with (i + 1 + 1) (numbered 0 (i + 1) (qs ++ tail)) ++ stops)) rest) (λ j x e. (let n : p + 1 + j ≡ p + suc j = omega arith in ap (slice_get (asked_by (says history))) n ∙ said (suc j) x e)))

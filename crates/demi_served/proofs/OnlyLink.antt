@@ -41,7 +41,7 @@ first_of : {X : Type 0} (x y : X) (i : ℕ) → slice_get (x ∷ []) i ≡ Some 
 first_of x y zero e = (refl, some_is e)
 first_of x y (suc i) e = absurd (cc)
 
-module _ (b : StoreBasis) (end : Trail StoreAsk StoreTold) (history : List StoreEntry) (w : Worker) (k : Link) (run : Run) (t : Talk) (ends : StoreEnds b end history (w ∷ []) (k ∷ []) run (t ∷ [])) (asked : AskedAll w) where
+module _ (b : StoreBasis) (end : Trail StoreAsk StoreTold) (history : List StoreEntry) (w : Worker) (k : Link) (run : Run) (t : Talk) (ends : StoreEnds b end history (w ∷ []) (k ∷ []) run (t ∷ [])) (told : b.told ≡ true) (asked : AskedAll w) where
   abbrev stops : List Numbered
   stops = asked.stops
 
@@ -82,8 +82,8 @@ module _ (b : StoreBasis) (end : Trail StoreAsk StoreTold) (history : List Store
   wanted : asked_in (says history) ≡ wants (asked_with 1 (numbered 0 0 k.drawn) ++ stops)
   wanted = sym (wants_are (says history)) ∙ ap wants all_said
 
-  from : RepliesFrom b history end.told only acc.rises stops 0 k.drawn t.replies
-  from = replies_from b history end.told only acc.rises stops 0 k.drawn t.replies (λ j r e. (
+  from : RepliesFrom b history end.told told only acc.rises stops 0 k.drawn t.replies
+  from = replies_from b history end.told told only acc.rises stops 0 k.drawn t.replies (λ j r e. (
       let h = replies_at b end history (w ∷ []) (k ∷ []) run (t ∷ []) ends w k.worker 0 0 0 k.drawn k.replies j r speaks.replied (ap (λ (l : List Reply). slice_get l j) (sym talk.0) ∙ e) in
       let a = acc.replied 0 j t r refl e in
       let same : a.0 ≡ h.0 = some_is (sym a.1 ∙ ap (λ (l : List Asked). slice_get l j) talk.1.1 ∙ get_left k.drawn talk.1.0 j h.0 h.1) in
@@ -95,12 +95,12 @@ module _ (b : StoreBasis) (end : Trail StoreAsk StoreTold) (history : List Store
       number : (j s : ℕ) → 0 + j ≡ 0 + (s - 1) → 1 ≤ s → s ≡ 0 + j + 1
       number j s e l = omega (arith, e)
 
-  stands : SaidFrom b history end.told only acc.rises stops 0 (asked_with 1 (numbered 0 0 k.drawn) ++ stops)
+  stands : SaidFrom b history end.told told only acc.rises stops 0 (asked_with 1 (numbered 0 0 k.drawn) ++ stops)
   stands j x e = let n : j ≡ 0 + j = omega arith in ap (slice_get (asked_by (says history))) (sym n)
       ∙ ap (λ (l : List Numbered). slice_get l j) all_said ∙ e
 
   pub serial_replies : t.replies ≡ take (length t.replies) (serial_from 0 b.records b.limit t.asks).replies
-  serial_replies = in_order b history end.told only acc.rises stops 0 0 k.drawn talk.1.0 t.replies stands from
+  serial_replies = in_order b history end.told told only acc.rises stops 0 0 k.drawn talk.1.0 t.replies stands from
       ∙ ap (λ (l : List Asked). take (length t.replies) (serial_from 0 b.records b.limit l).replies) (sym talk.1.1)
 
   pub serial_all : length t.replies ≡ length t.asks → t.replies ≡ (serial_from 0 b.records b.limit t.asks).replies
@@ -128,7 +128,7 @@ module _ (b : StoreBasis) (end : Trail StoreAsk StoreTold) (history : List Store
       let are_stops = asked.are_stops in
       let drawn : take (length t.replies) t.asks ≡ k.drawn = ap (λ n. take n t.asks) even
       ∙ ap (take (length k.drawn)) talk.1.1 ∙ take-append_seam k.drawn talk.1.0 in
-      let order = records_in_order b history end.told only acc.rises stops are_stops 0 0 k.drawn t.replies wanted stands from even in
+      let order = records_in_order b history end.told told only acc.rises stops are_stops 0 0 k.drawn t.replies wanted stands from even in
       let all : run.records ≡ b.records ++ (serial_from 0 b.records b.limit k.drawn).records =
       all_are ∙ ap (λ (l : List Record). (standing_from b.limit (struck_at end.told) 0 (opened b.records) asks).records ++ l) none ∙ append-nil _ ∙ order in
       ap (λ n. drop n run.records) (sym ends.old) ∙ ap (drop (length b.records)) all
@@ -136,14 +136,14 @@ module _ (b : StoreBasis) (end : Trail StoreAsk StoreTold) (history : List Store
       ∙ ap (λ (l : List Asked). (serial_from 0 b.records b.limit l).records) (sym drawn)
 
   long_enough : (i : ℕ) (qs : List Asked) (rs : List Reply)
-      → RepliesFrom b history end.told only acc.rises stops i qs rs → length rs ≤ length qs
+      → RepliesFrom b history end.told told only acc.rises stops i qs rs → length rs ≤ length qs
   long_enough i qs [] h = omega arith
   long_enough i [] (r ∷ rs) h = absurd h
   long_enough i (q ∷ qs) (r ∷ rs) h = let k = long_enough (i + 1) qs rs h.3 in omega arith
 
   front_replied : (i : ℕ) (qs : List Asked) (rs : List Reply)
-      → RepliesFrom b history end.told only acc.rises stops i qs rs
-      → RepliesFrom b history end.told only acc.rises stops i (take (length rs) qs) rs
+      → RepliesFrom b history end.told told only acc.rises stops i qs rs
+      → RepliesFrom b history end.told told only acc.rises stops i (take (length rs) qs) rs
   front_replied i qs [] h = tt
   front_replied i [] (r ∷ rs) h = absurd h
   front_replied i (q ∷ qs) (r ∷ rs) h = (h.0, h.1, h.2, front_replied (i + 1) qs rs h.3)
@@ -207,7 +207,7 @@ module _ (b : StoreBasis) (end : Trail StoreAsk StoreTold) (history : List Store
   are_stops = asked.are_stops
 
   abbrev pub here_at : ℕ → Standing
-  here_at p = stand b history end.told only acc.rises stops are_stops p
+  here_at p = stand b history end.told told only acc.rises stops are_stops p
 
   last_is : (p : ℕ) → last ≡ standing_from b.limit struck (0 + length (take p of_all)) (here_at p) (drop p of_all)
   last_is p = ap (standing_from b.limit struck 0 (opened b.records)) (sym (take-append-drop p of_all))
@@ -281,7 +281,7 @@ module _ (b : StoreBasis) (end : Trail StoreAsk StoreTold) (history : List Store
   serial_more few =
       let whole : front ++ drop (length t.replies) k.drawn ≡ k.drawn = take-append-drop (length t.replies) k.drawn in
       let now : asked_by (says history) ≡ asked_with (0 + 1) (numbered 0 0 (front ++ drop (length t.replies) k.drawn)) ++ stops = all_said ∙ ap (λ (l : List Asked). asked_with 1 (numbered 0 0 l) ++ stops) (sym whole) in
-      let there = reach b history end.told only acc.rises stops are_stops 0 0 front (drop (length t.replies) k.drawn) t.replies refl (sym (wants_are (says history)) ∙ ap wants now)
+      let there = reach b history end.told told only acc.rises stops are_stops 0 0 front (drop (length t.replies) k.drawn) t.replies refl (sym (wants_are (says history)) ∙ ap wants now)
       (λ j x e. (let n : j ≡ 0 + j = omega arith in ap (slice_get (asked_by (says history))) (sym n) ∙ ap (λ (l : List Numbered). slice_get l j) now ∙ e)) (front_replied 0 k.drawn t.replies from) (sym in_front) in
       let short : length (drop (length t.replies) k.drawn) ≤ 1 = few_left in
       go (drop (length t.replies) k.drawn) refl short there.place there.records there.calm there.rest

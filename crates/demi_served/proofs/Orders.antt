@@ -1,5 +1,5 @@
 -- One worker that serves one link alone replies as the store on one thread.
-use Rattle.std.proofs.Common.{◌≡◌, ℕ, zero, suc, ◌+◌, ◌<◌, List, [], ◌∷◌, ◌++◌, length, take, Option, None, Some, refl, arith, ◌∙◌, ap, sym, subst, append-nil, inl, inr}
+use Rattle.std.proofs.Common.{◌≡◌, ℕ, zero, suc, ◌+◌, ◌<◌, List, [], ◌∷◌, ◌++◌, length, take, Option, None, Some, refl, arith, ◌∙◌, ap, sym, subst, append-nil, inl, inr, true}
 use Rattle.std.specs.Prelude.{slice_get, map}
 use Rattle.std.proofs.lemmas.Bool.{cases_lt}
 use Rattle.demi_port.specs.Seen.{says}
@@ -53,7 +53,7 @@ entry_of [] p x e = absurd (cc)
 entry_of (y ∷ history) zero x e = (y, refl, some_is e)
 entry_of (y ∷ history) (suc p) x e = entry_of history p x e
 
-module _ (b : StoreBasis) (history : List StoreEntry) (trail : List (ℕ × StoreTold)) (alone : (p : ℕ) (e : StoreEntry) → slice_get history p ≡ Some e → e.0 ≡ 0)
+module _ (b : StoreBasis) (history : List StoreEntry) (trail : List (ℕ × StoreTold)) (told : b.told ≡ true) (alone : (p : ℕ) (e : StoreEntry) → slice_get history p ≡ Some e → e.0 ≡ 0)
     (rises : (p q : ℕ) (x y : StoreEntry) → p < q → slice_get history p ≡ Some x → slice_get history q ≡ Some y → x.0 ≡ y.0 → IsLater x.1.1 y.1.1) (stops : List Numbered) where
   abbrev pub before : ℕ → Standing
   before p = below b.limit (struck_at trail) b.records (asked_in (says history)) p
@@ -88,7 +88,7 @@ module _ (b : StoreBasis) (history : List StoreEntry) (trail : List (ℕ × Stor
       → (slice_get (asked_in (says history)) p ≡ Some ask) × ((said_at b.limit p (before p) ask (struck_at trail p)).0 ≡ Told r.answer)
   asked_there i p q r ask is here number h =
       let x = entry_of history p (record { sequence = i + 1; ask = ask }) here in
-      let y = placing b history trail r ask h.0 h.1 in
+      let y = placing b history trail told r ask h.0 h.1 in
       let mine : asks_at x.0 ≡ ask = ap (λ (z : Numbered). z.ask) x.2 in
       let my_number : x.0.1.1.sequence ≡ i + 1 = ap (λ (z : Numbered). z.sequence) x.2 in
       let place : y.place ≡ p = one_place y.place p y.entry x.0 y.here x.1 (subst IsNoStop (sym y.is) (is_request 0 i q ask is)) (subst IsNoStop (sym mine) (is_request 0 i q ask is)) (y.sequence ∙ number ∙ sym my_number) in (

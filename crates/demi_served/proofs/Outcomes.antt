@@ -1,5 +1,5 @@
 -- An outcome that the law admits is a reply of the one-thread store.
-use Rattle.std.proofs.Common.{◌≡◌, ℕ, true, List, [], ◌∷◌, ◌++◌, length, Option, None, Some, refl, ◌∙◌, ap, sym, subst}
+use Rattle.std.proofs.Common.{◌≡◌, ℕ, List, [], ◌∷◌, ◌++◌, length, Option, None, Some, refl, ◌∙◌, ap, sym, Bool}
 use Rattle.demi_heap.specs.Seen.{HalfValue}
 use Rattle.demi_logq.specs.Folding.{bytes_of}
 use Rattle.demi_spec.specs.Request.{Get}
@@ -18,7 +18,7 @@ use Rattle.demi_store.specs.declared.op.StoreOp.{StoreOp}
 use Rattle.demi_store.specs.declared.op.StoreOp.TheVariants as op
 use Rattle.demi_store.specs.declared.out.StoreOut.{StoreOut}
 use Rattle.demi_store.specs.declared.told.StoreTold.{StoreTold}
-use Rattle.demi_served.specs.Asking.{Gets, Stops, IsSaid, asks_for, answer_with, reply_for}
+use Rattle.demi_served.specs.Asking.{Gets, Stops, IsRepliedAs, IsToldTo, asks_for, answer_with, reply_for}
 use Rattle.demi_served.proofs.Folds.{said_by, said_at, result_is}
 use Rattle.demi_served.proofs.Places.{told_step}
 use Rattle.demi_served.proofs.Versions.{put_version}
@@ -53,81 +53,65 @@ stored_value limit place s k op.Stop v value h = go s.stop h
     go None h = absurd (cc)
     go (Some at) h = absurd (cc)
 
-stored_back : (o : StoreOp) (back : Back) (v : ℕ) (value : List ℕ) (a : Answer) → HasValue o value
-    → BackIs true (Told (Stored v value)) o back → answer_with (said.Stored v) back ≡ Some a
-    → Told (Stored v value) ≡ Told a
-stored_back (op.Put link index key None) Nothing v value a has b e = ap (λ (l : List ℕ). Told (Stored v l)) has
-    ∙ ap Told (some_is e)
-  where
-    some_is : {x y : Answer} → Some x ≡ Some y → x ≡ y
-    some_is e = cc
-stored_back (op.Put link index key None) (Value back) v value a has b e = absurd b
-stored_back (op.Put link index key None) (Room back) v value a has b e = absurd b
-stored_back (op.Put link index key (Some sga)) Nothing v value a has b e = absurd b
-stored_back (op.Put link index key (Some sga)) (Value back) v value a has b e = ap (λ (l : List ℕ). Told (Stored v l)) (has ∙ sym (same_bytes sga back b)) ∙ ap Told (some_is e)
-  where
-    some_is : {x y : Answer} → Some x ≡ Some y → x ≡ y
-    some_is e = cc
-stored_back (op.Put link index key (Some sga)) (Room back) v value a has b e = absurd b
-stored_back (op.Get key room) back v value a has b e = absurd has
-stored_back op.Stop back v value a has b e = absurd has
+some_answer : {x y : Answer} → Some x ≡ Some y → x ≡ y
+some_answer e = cc
 
-found_back : (o : StoreOp) (back : Back) (v : ℕ) (value : List ℕ) (a : Answer)
-    → BackIs true (Told (Found v value)) o back → answer_with (said.Found v) back ≡ Some a
-    → Told (Found v value) ≡ Told a
-found_back o Nothing v value a b e = absurd (cc)
-found_back o (Value back) v value a b e = absurd (cc)
-found_back (op.Put link index key None) (Room back) v value a b e = absurd b
-found_back (op.Put link index key (Some sga)) (Room back) v value a b e = absurd b
-found_back (op.Get key room) (Room back) v value a b e = ap (λ (l : List ℕ). Told (Found v l)) (sym b.1)
-    ∙ ap Told (some_is e)
-  where
-    some_is : {x y : Answer} → Some x ≡ Some y → x ≡ y
-    some_is e = cc
-found_back op.Stop (Room back) v value a b e = absurd b
+stored_back : (told : Bool) (o : StoreOp) (back : Back) (v : ℕ) (value : List ℕ) (a : Answer) → HasValue o value
+    → BackIs told (Told (Stored v value)) o back → answer_with (said.Stored v) back ≡ Some a → a ≡ Stored v value
+stored_back told (op.Put link index key None) Nothing v value a has b e = sym (some_answer e)
+    ∙ ap (Stored v) (sym has)
+stored_back told (op.Put link index key None) (Value back) v value a has b e = absurd b
+stored_back told (op.Put link index key None) (Room back) v value a has b e = absurd b
+stored_back told (op.Put link index key (Some sga)) Nothing v value a has b e = absurd b
+stored_back told (op.Put link index key (Some sga)) (Value back) v value a has b e =
+    sym (some_answer e) ∙ ap (Stored v) (same_bytes sga back b ∙ sym has)
+stored_back told (op.Put link index key (Some sga)) (Room back) v value a has b e = absurd b
+stored_back told (op.Get key room) back v value a has b e = absurd has
+stored_back told op.Stop back v value a has b e = absurd has
 
-some_told : {x a : Answer} → Some x ≡ Some a → Told x ≡ Told a
-some_told e = cc
+found_back : (told : Bool) (o : StoreOp) (back : Back) (v : ℕ) (value : List ℕ) (a : Answer)
+    → BackIs told (Told (Found v value)) o back → answer_with (said.Found v) back ≡ Some a
+    → IsRepliedAs told (Found v value) a
+found_back told o Nothing v value a b e = absurd (cc)
+found_back told o (Value back) v value a b e = absurd (cc)
+found_back told (op.Put link index key None) (Room back) v value a b e = absurd b
+found_back told (op.Put link index key (Some sga)) (Room back) v value a b e = absurd b
+found_back told (op.Get key room) (Room back) v value a b e = (back.bytes, sym (some_answer e), b.1)
+found_back told op.Stop (Room back) v value a b e = absurd b
+
+none_some : {a : Answer} → None ≡ Some a → ⊥
+none_some e = absurd (cc)
 
 -- what is said, by what is answered and what comes back
-told_back : (s : Said) (o : StoreOp) (answer : StoreAnswer) (back : Back) (a : Answer)
-    → ((v : ℕ) (value : List ℕ) → s ≡ Told (Stored v value) → HasValue o value) → AnswerIs s answer
-    → BackIs true s o back → answer_with answer back ≡ Some a → s ≡ Told a
-told_back (Told (Stored v value)) o answer back a has is b e = stored_back o back v value a (has v value refl) b (ap (λ (x : StoreAnswer). answer_with x back) (sym is) ∙ e)
-told_back (Told (Found v value)) o answer back a has is b e = found_back o back v value a b (ap (λ (x : StoreAnswer). answer_with x back) (sym is) ∙ e)
-told_back (Told (Missing v)) o answer back a has is b e = some_told (ap (λ (x : StoreAnswer). answer_with x back) (sym is) ∙ e)
-told_back (Told (Full v)) o answer back a has is b e = some_told (ap (λ (x : StoreAnswer). answer_with x back) (sym is) ∙ e)
-told_back (Told (Refused code)) o answer back a has is b e = absurd is
-told_back (Told Bye) o answer back a has is b e = absurd is
-told_back Fault o answer back a has is b e = absurd (none (ap (λ (x : StoreAnswer). answer_with x back) (sym is) ∙ e))
-  where
-    none : {a : Answer} → None ≡ Some a → ⊥
-    none e = absurd (cc)
-told_back NoMemory o answer back a has is b e = absurd (none (ap (λ (x : StoreAnswer). answer_with x back) (sym is) ∙ e))
-  where
-    none : {a : Answer} → None ≡ Some a → ⊥
-    none e = absurd (cc)
-told_back (Broken at) o answer back a has is b e = absurd (none (ap (λ (x : StoreAnswer). answer_with x back) (sym is) ∙ e))
-  where
-    none : {a : Answer} → None ≡ Some a → ⊥
-    none e = absurd (cc)
-told_back (Stopped at) o answer back a has is b e = absurd (none (ap (λ (x : StoreAnswer). answer_with x back) (sym is) ∙ e))
-  where
-    none : {a : Answer} → None ≡ Some a → ⊥
-    none e = absurd (cc)
-told_back Halted o answer back a has is b e = absurd (none (ap (λ (x : StoreAnswer). answer_with x back) (sym is) ∙ e))
-  where
-    none : {a : Answer} → None ≡ Some a → ⊥
-    none e = absurd (cc)
+abbrev IsBack : Bool → Said → Answer → Type 0
+IsBack told s a = (x : Answer) × (s ≡ Told x) × IsRepliedAs told x a
 
-pub outcome_said : (b : StoreBasis) (h : List StoreAsk) (t : List (ℕ × StoreTold)) (p : ℕ) (out : StoreOut)
-    (a : Answer) → b.told ≡ true → Admits b h t p out → reply_for out ≡ Some a → IsSaid b h t p (Told a)
-outcome_said b h t p out a told is e =
+told_back : (told : Bool) (s : Said) (o : StoreOp) (answer : StoreAnswer) (back : Back) (a : Answer)
+    → ((v : ℕ) (value : List ℕ) → s ≡ Told (Stored v value) → HasValue o value) → AnswerIs s answer
+    → BackIs told s o back → answer_with answer back ≡ Some a → IsBack told s a
+told_back told s o answer back a has is b e = go s has is b
+  where
+    by : (x : StoreAnswer) → answer ≡ x → answer_with x back ≡ Some a
+    by x is = ap (λ (z : StoreAnswer). answer_with z back) (sym is) ∙ e
+
+    go : (s : Said) → ((v : ℕ) (value : List ℕ) → s ≡ Told (Stored v value) → HasValue o value) → AnswerIs s answer
+        → BackIs told s o back → IsBack told s a
+    go (Told (Stored v value)) has is b = (Stored v value, refl, stored_back told o back v value a (has v value refl) b (by (said.Stored v) is))
+    go (Told (Found v value)) has is b = (Found v value, refl, found_back told o back v value a b (by (said.Found v) is))
+    go (Told (Missing v)) has is b = (Missing v, refl, sym (some_answer (by (said.Missing v) is)))
+    go (Told (Full v)) has is b = (Full v, refl, sym (some_answer (by (said.Full v) is)))
+    go (Told (Refused code)) has is b = absurd is
+    go (Told Bye) has is b = absurd is
+    go Fault has is b = absurd (none_some (by said.Fault is))
+    go NoMemory has is b = absurd (none_some (by said.NoMemory is))
+    go (Broken at) has is b = absurd (none_some (by (said.Broken (record { 0 = at })) is))
+    go (Stopped at) has is b = absurd (none_some (by (said.Stopped (record { 0 = at })) is))
+    go Halted has is b = absurd (none_some (by said.Halted is))
+
+pub outcome_told : (b : StoreBasis) (h : List StoreAsk) (t : List (ℕ × StoreTold)) (p : ℕ) (out : StoreOut)
+    (a : Answer) → Admits b h t p out → reply_for out ≡ Some a → IsToldTo b h t p a
+outcome_told b h t p out a is e =
     let s : Said = said_to b h t p is.0 in
-    let back : BackIs true s is.0.op out.back = subst (λ c. BackIs c s is.0.op out.back) told is.2.1 in
-    record {
-      asked = is.0;
-      here = is.1;
-      result = told_back s is.0.op out.answer out.back a
-          (λ v value same. stored_value b.limit p _ (struck_at t p) is.0.op v value (sym (result_is b h t p is.0) ∙ same)) is.2.0 back e;
-    }
+    let k = told_back b.told s is.0.op out.answer out.back a
+    (λ v value same. stored_value b.limit p _ (struck_at t p) is.0.op v value (sym (result_is b h t p is.0) ∙ same)) is.2.0 is.2.1 e in
+    (k.0, record { asked = is.0; here = is.1; result = k.1 }, k.2)

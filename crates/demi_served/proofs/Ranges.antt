@@ -1,8 +1,8 @@
 -- What a text asks is in range, and so is what is answered.
-use Rattle.std.proofs.Common.{◌≡◌, ℕ, zero, suc, ◌+◌, ◌-◌, ◌≤◌, Bool, true, false, List, [], ◌∷◌, ◌++◌, length, map, take, drop, Option, None, Some, refl, arith, ◌∙◌, ap, sym, subst, cond}
+use Rattle.std.proofs.Common.{◌≡◌, ℕ, zero, suc, ◌+◌, ◌-◌, ◌≤◌, Bool, true, false, List, [], ◌∷◌, length, take, drop, Option, None, Some, refl, arith, ◌∙◌, sym, subst, cond}
 use Rattle.std.specs.Prelude.{nat_le, nat_lt, ◌==◌, ◌&&◌, ◌||◌, if◌then◌else◌, bytes_eq}
 use Rattle.std.specs.List.{AllByRecursion}
-use Rattle.demi_spec.specs.Request.{IsBytes, value_max, Request, Put, Get, End, IsRequest}
+use Rattle.demi_spec.specs.Request.{IsBytes, value_max, Request, Put, Get, End}
 use Rattle.demi_spec.specs.Input.{Asked, Request_of, Refused_end, Ending, EndFrame, Clean, Refused as refused_by, Open, Front, Whole, Ends, Parses, front, front_of_content, cut_short, code_of_head, head_kind, head_key, head_value, request_of, parse, asked, asked_of, refused_end}
 use Rattle.demi_spec.specs.Record.{Record, IsRecord}
 use Rattle.demi_spec.specs.Reply.{Answer, Stored, Found, Missing, Refused, Bye, Full, IsAnswer, word_max}
@@ -10,7 +10,7 @@ use Rattle.demi_spec.specs.Store.{answer, found, unless_later}
 use Rattle.demi_spec.specs.Store as store
 use Rattle.demi_spec.proofs.Parsing.{parse_parses}
 use Rattle.demi_served.specs.Talks.{Run, Talk}
-use Rattle.demi_served.specs.Answers.{Answers, looked_at}
+use Rattle.demi_served.specs.Answers.{Answers}
 use Rattle.demi_served.specs.Ranges.{IsInRange}
 use Rattle.demi_served.specs.Served.{IsAsked, Recorded}
 use Rattle.demi_served.proofs.Lists.{all_at, all_by, get_within}

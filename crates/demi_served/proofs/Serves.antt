@@ -1,5 +1,5 @@
 -- Where a history accounts for all replies and records of a session, they are consistent and recorded.
-use Rattle.std.proofs.Common.{◌≡◌, ◌≢◌, ℕ, zero, suc, ◌+◌, ◌≤◌, ◌<◌, Bool, List, [], ◌∷◌, ◌++◌, length, drop, Option, None, Some, refl, arith, ◌∙◌, ap, sym, subst, append_assoc, inl, inr}
+use Rattle.std.proofs.Common.{◌≡◌, ◌≢◌, ℕ, zero, suc, ◌+◌, ◌≤◌, ◌<◌, Bool, true, List, [], ◌∷◌, ◌++◌, length, drop, Option, None, Some, refl, arith, ◌∙◌, ap, sym, subst, append_assoc, inl, inr}
 use Rattle.std.specs.Prelude.{slice_get, IfSome, IsTrue}
 use Rattle.std.specs.List.{AllByRecursion}
 use Rattle.std.proofs.lemmas.Bool.{cases_lt}
@@ -21,6 +21,7 @@ use Rattle.demi_served.specs.Accounts.{StoreEntry, asks_at, asked_in, IsAnswered
 use Rattle.demi_served.proofs.Lists.{some_is, all_by, all_at, placed_by, pairwise_by, pairwise_at, all_flat, pairwise_flat}
 use Rattle.demi_served.proofs.Folds.{standing_from, storeresult, stored_from, history_adds, result_is, end_is}
 use Rattle.demi_served.proofs.Places.{Telling, answers_by_place, versions_by_place}
+use Rattle.demi_served.proofs.Steady.{exact}
 use Rattle.demi_served.proofs.Comes.{FromPuts, records_come}
 
 -- what stands at a place, of entries, of what they say and of what is asked
@@ -63,10 +64,10 @@ module _ (b : StoreBasis) (history : List StoreEntry) (trail : List (ℕ × Stor
     pub asked : slice_get asks place ≡ Some ask
     pub said : storeresult b.limit b.records (struck_at trail) asks place ask ≡ Told r.answer
 
-  pub placing : (r : Reply) (ask : Ask) (p : ℕ) → IsAnsweredAt b history trail ask r p → Placing r ask
-  placing r ask p h =
+  pub placing : b.told ≡ true → (r : Reply) (ask : Ask) (p : ℕ) → IsAnsweredAt b history trail ask r p → Placing r ask
+  placing told r ask p h =
       let there = says_at history p h.entry h.here in
-      let same : h.said.asked ≡ h.entry.1.1 = some_is (sym h.said.here ∙ there) in
+      let same : h.said.1.asked ≡ h.entry.1.1 = some_is (sym h.said.1.here ∙ there) in
       record {
         place = p;
         entry = h.entry;
@@ -75,7 +76,7 @@ module _ (b : StoreBasis) (history : List StoreEntry) (trail : List (ℕ × Stor
         sequence = h.sequence;
         is = h.asks;
         asked = asked_at (says history) p h.entry.1.1 there ∙ ap Some h.asks;
-        said = ap (storeresult b.limit b.records (struck_at trail) asks p) (sym h.asks ∙ ap (λ (s : StoreAsk). asks_for s.op) (sym same)) ∙ sym (result_is b (says history) trail p h.said.asked) ∙ h.said.result;
+        said = ap (storeresult b.limit b.records (struck_at trail) asks p) (sym h.asks ∙ ap (λ (s : StoreAsk). asks_for s.op) (sym same)) ∙ sym (result_is b (says history) trail p h.said.1.asked) ∙ h.said.1.result ∙ ap Told (exact b.told h.said.0 r.answer told h.said.2);
       }
 
   pub telling : (link index : ℕ) (q : Asked) (r : Reply) (ask : Ask) → ask_of link index q ≡ Some ask
@@ -86,6 +87,49 @@ module _ (b : StoreBasis) (history : List StoreEntry) (trail : List (ℕ × Stor
     all_records : run.records ≡ (standing_from b.limit (struck_at trail) 0 (opened b.records) asks).records ++ acc.logged.extra
     all_records = acc.logged.all ∙ ap (λ (s : Standing). s.records ++ acc.logged.extra) (end_is b (says history) trail)
 
+    -- the new records
+    new_records : drop run.old run.records ≡ stored_from b.limit (struck_at trail) 0
+        (opened b.records) asks ++ acc.logged.extra
+    new_records =
+        let stored : List Record = stored_from b.limit (struck_at trail) 0 (opened b.records) asks in
+        ap (λ n. drop n run.records) (sym acc.old)
+        ∙ ap (drop (length b.records)) (all_records ∙ ap (λ (l : List Record). l ++ acc.logged.extra) (history_adds b.limit (struck_at trail) 0 (opened b.records) asks) ∙ append_assoc b.records stored acc.logged.extra)
+        ∙ drop-append_seam b.records (stored ++ acc.logged.extra)
+
+    put_asked : (p : ℕ) (r : Record) → slice_get asks p ≡ Some (Puts r) → IsAsked talks r
+    put_asked p r e = let x = entry_at history p (Puts r) e in acc.puts p x.0 r x.1 x.2
+
+    all_asked : (n m : ℕ) (records : List Record) → FromPuts asks n records m → AllByRecursion (IsAsked talks) records
+    all_asked n m [] h = tt
+    all_asked n m (r ∷ records) h = (put_asked h.0 r h.2, all_asked (h.0 + 1) m records h.3)
+
+    all_apart : (p n m : ℕ) (r : Record) (records : List Record) → slice_get asks p ≡ Some (Puts r) → p < n
+        → FromPuts asks n records m → AllByRecursion (OfTwoRequests r) records
+    all_apart p n m r [] e less h = tt
+    all_apart p n m r (s ∷ records) e less h =
+        (apart, all_apart p (h.0 + 1) m r records e (let le = h.1 in omega arith) h.3)
+      where
+        apart : OfTwoRequests r s
+        apart links indexes =
+            let x = entry_at history p (Puts r) e in
+            let y = entry_at history h.0 (Puts s) h.2 in
+            let same : p ≡ h.0 = acc.once p h.0 x.0 y.0 r s x.1 y.1 x.2 y.2 links indexes in
+            let le = h.1 in absurd (omega (arith, same))
+
+    once : (n m : ℕ) (records : List Record) → FromPuts asks n records m → Pairwise OfTwoRequests records
+    once n m [] h = tt
+    once n m (r ∷ records) h = (all_apart h.0 (h.0 + 1) m r records h.2 (omega arith) h.3, once (h.0 + 1) m records h.3)
+
+    pub recorded : Recorded run talks
+    recorded =
+        let left = subst (λ (s : Standing). IsLeft s.fault asks acc.logged.extra) (end_is b (says history) trail) acc.logged.left in
+        let come = records_come b.limit (struck_at trail) b.records asks acc.logged.extra left in
+        record {
+          asked = subst (AllByRecursion (IsAsked talks)) (sym new_records) (all_asked 0 come.0 _ come.1);
+          once = subst (Pairwise OfTwoRequests) (sym new_records) (once 0 come.0 _ come.1);
+        }
+
+  module _ (run : Run) (talks : List Talk) (acc : Accounted b history trail run talks) (told : b.told ≡ true) where
     -- each reply answers its request
     plain_answers : (link index : ℕ) (q : Asked) (r : Reply) → ask_of link index q ≡ None → r.answer ≡ plain_answer q
         → Answers run link index q r.answer
@@ -102,8 +146,8 @@ module _ (b : StoreBasis) (history : List StoreEntry) (trail : List (ℕ × Stor
             → Answers run link index q r.answer
         go None e h = plain_answers link index q r e h
         go (Some ask) e h =
-            let p = placing r ask h.0 h.1 in
-            answers_by_place b.limit (struck_at trail) b.records asks run acc.logged.extra p.place link index q r.answer acc.old acc.limit all_records (telling link index q r ask e p)
+            let p = placing told r ask h.0 h.1 in
+            answers_by_place b.limit (struck_at trail) b.records asks run acc.logged.extra p.place link index q r.answer acc.old acc.limit (all_records run talks acc) (telling link index q r ask e p)
 
     answers_by : (link base : ℕ) (qs : List Asked) (rs : List Reply)
         → ((i : ℕ) (r : Reply) → slice_get rs i ≡ Some r → (q : Asked) × (slice_get qs i ≡ Some q) × Answers run link (base + i) q r.answer) → AnswersEach run link base qs rs
@@ -159,7 +203,7 @@ module _ (b : StoreBasis) (history : List StoreEntry) (trail : List (ℕ × Stor
             → IsAccounted b history trail x s c → Rises r s
         go None c ea ec h k = first_none r s (no_version q r.answer h)
         go (Some a) None ea ec h k = second_none r s (no_version x s.answer k)
-        go (Some a) (Some c) ea ec h k = in_order l i m j q x r s a c ea ec (placing r a h.0 h.1) (placing s c k.0 k.1) same less
+        go (Some a) (Some c) ea ec h k = in_order l i m j q x r s a c ea ec (placing told r a h.0 h.1) (placing told s c k.0 k.1) same less
 
     weaker : (strict : Bool) (o p : Option ℕ) → IfSome o (λ v. IfSome p (λ w. (v ≤ w) × (IsTrue strict → v < w)))
         → IfSome o (λ v. IfSome p (λ w. v ≤ w))
@@ -207,45 +251,3 @@ module _ (b : StoreBasis) (history : List StoreEntry) (trail : List (ℕ × Stor
           (λ j s g. (let k = acc.replied link i t r e d in let o = acc.replied other j u s f g in
           two link i other j k.0 o.0 r s k.3 o.3 (acc.apart link other i j t u r s (λ same. absurd (omega (arith, same))) e f d g))))));
     }
-
-    -- the new records
-    new_records : drop run.old run.records ≡ stored_from b.limit (struck_at trail) 0
-        (opened b.records) asks ++ acc.logged.extra
-    new_records =
-        let stored : List Record = stored_from b.limit (struck_at trail) 0 (opened b.records) asks in
-        ap (λ n. drop n run.records) (sym acc.old)
-        ∙ ap (drop (length b.records)) (all_records ∙ ap (λ (l : List Record). l ++ acc.logged.extra) (history_adds b.limit (struck_at trail) 0 (opened b.records) asks) ∙ append_assoc b.records stored acc.logged.extra)
-        ∙ drop-append_seam b.records (stored ++ acc.logged.extra)
-
-    put_asked : (p : ℕ) (r : Record) → slice_get asks p ≡ Some (Puts r) → IsAsked talks r
-    put_asked p r e = let x = entry_at history p (Puts r) e in acc.puts p x.0 r x.1 x.2
-
-    all_asked : (n m : ℕ) (records : List Record) → FromPuts asks n records m → AllByRecursion (IsAsked talks) records
-    all_asked n m [] h = tt
-    all_asked n m (r ∷ records) h = (put_asked h.0 r h.2, all_asked (h.0 + 1) m records h.3)
-
-    all_apart : (p n m : ℕ) (r : Record) (records : List Record) → slice_get asks p ≡ Some (Puts r) → p < n
-        → FromPuts asks n records m → AllByRecursion (OfTwoRequests r) records
-    all_apart p n m r [] e less h = tt
-    all_apart p n m r (s ∷ records) e less h =
-        (apart, all_apart p (h.0 + 1) m r records e (let le = h.1 in omega arith) h.3)
-      where
-        apart : OfTwoRequests r s
-        apart links indexes =
-            let x = entry_at history p (Puts r) e in
-            let y = entry_at history h.0 (Puts s) h.2 in
-            let same : p ≡ h.0 = acc.once p h.0 x.0 y.0 r s x.1 y.1 x.2 y.2 links indexes in
-            let le = h.1 in absurd (omega (arith, same))
-
-    once : (n m : ℕ) (records : List Record) → FromPuts asks n records m → Pairwise OfTwoRequests records
-    once n m [] h = tt
-    once n m (r ∷ records) h = (all_apart h.0 (h.0 + 1) m r records h.2 (omega arith) h.3, once (h.0 + 1) m records h.3)
-
-    pub recorded : Recorded run talks
-    recorded =
-        let left = subst (λ (s : Standing). IsLeft s.fault asks acc.logged.extra) (end_is b (says history) trail) acc.logged.left in
-        let come = records_come b.limit (struck_at trail) b.records asks acc.logged.extra left in
-        record {
-          asked = subst (AllByRecursion (IsAsked talks)) (sym new_records) (all_asked 0 come.0 _ come.1);
-          once = subst (Pairwise OfTwoRequests) (sym new_records) (once 0 come.0 _ come.1);
-        }

@@ -1,5 +1,5 @@
 -- A session whose ends are known was served.
-use Rattle.std.proofs.Common.{ℕ, List, [], ◌∷◌, length, inl}
+use Rattle.std.proofs.Common.{◌≡◌, ℕ, true, List, [], ◌∷◌, length, inl}
 use Rattle.std.specs.List.{AllZip}
 use Rattle.demi_port_core.specs.declared.trail.Trail.{Trail}
 use Rattle.demi_store.specs.Laws.{StoreBasis}
@@ -18,11 +18,11 @@ use Rattle.demi_served.proofs.LinkEnds.{torn_all}
 use Rattle.demi_served.proofs.Serves.{consistent, recorded}
 
 pub served : (b : StoreBasis) (end : Trail StoreAsk StoreTold) (history : List StoreEntry) (workers : List Worker)
-    (links : List Link) (run : Run) (talks : List Talk) → StoreEnds b end history workers links run talks
+    (links : List Link) (run : Run) (talks : List Talk) → b.told ≡ true → StoreEnds b end history workers links run talks
     → AllZip TornTalk run.links talks → Served run
-served b end history workers links run talks ends torn =
+served b end history workers links run talks told ends torn =
     let a = accounted b end history workers links run talks ends in
-    record { talks = talks; read = torn; consistent = consistent b history end.told run talks a; recorded = recorded b history end.told run talks a }
+    record { talks = talks; read = torn; consistent = consistent b history end.told run talks a told; recorded = recorded b history end.told run talks a }
 
 untorn : (links : List LinkRun) (talks : List Talk) → AllZip WholeTalk links talks → AllZip TornTalk links talks
 untorn [] [] h = tt
@@ -35,11 +35,11 @@ whole_served run w = record { talks = w.talks; read = untorn run.links w.talks w
 
 pub accounted_served : (b : StoreBasis) (history : List StoreEntry) (trail : List (ℕ × StoreTold))
     (ports : List LinkPorts) (workers : ℕ) (memory : List MemEntry) (run : Run) (talks : List Talk)
-    → SessionAccounted b history trail ports workers memory run talks → Served run
-accounted_served b history trail ports workers memory run talks s = record {
+    → b.told ≡ true → SessionAccounted b history trail ports workers memory run talks → Served run
+accounted_served b history trail ports workers memory run talks told s = record {
   talks = talks;
   read = torn_all run.links ports talks s.links;
-  consistent = consistent b history trail run talks s.store;
+  consistent = consistent b history trail run talks s.store told;
   recorded = recorded b history trail run talks s.store;
 }
 

@@ -1,15 +1,16 @@
 -- What the store said at a place stays as it is, whatever is asked and told later.
-use Rattle.std.proofs.Common.{◌≡◌, ℕ, ◌<◌, List, [], ◌∷◌, ◌++◌, length, arith, ◌∙◌, ap, sym, subst}
+use Rattle.std.proofs.Common.{◌≡◌, ℕ, Bool, true, ◌<◌, List, [], ◌∷◌, ◌++◌, length, arith, ◌∙◌, ap, sym, subst}
 use Rattle.std.specs.Prelude.{◌↔◌}
 use Rattle.demi_port_core.specs.History.{AllAbove}
 use Rattle.demi_port_core.specs.Trails.{NoneBelow, Behind}
 use Rattle.demi_port_core.specs.declared.trail.Trail.{Trail}
-use Rattle.demi_store.specs.History.{Said, struck_at}
-use Rattle.demi_store.specs.Laws.{StoreBasis, said_to}
+use Rattle.demi_spec.specs.Reply.{Answer, Stored, Found, Missing, Refused, Bye, Full}
+use Rattle.demi_store.specs.History.{Said, Told, struck_at}
+use Rattle.demi_store.specs.Laws.{StoreBasis, ValueIs, said_to}
 use Rattle.demi_store.specs.Steady.{result_steady, struck_steady}
 use Rattle.demi_store.specs.declared.ask.StoreAsk.{StoreAsk}
 use Rattle.demi_store.specs.declared.told.StoreTold.{StoreTold}
-use Rattle.demi_served.specs.Asking.{IsSaid}
+use Rattle.demi_served.specs.Asking.{IsSaid, IsRepliedAs, IsToldTo}
 use Rattle.demi_served.proofs.Lists.{some_is, get_within, get_left}
 
 said_same : (b : StoreBasis) (h more : List StoreAsk) (t later : List (ℕ × StoreTold)) (p : ℕ) (a : StoreAsk)
@@ -55,3 +56,23 @@ pub closed_said : (b : StoreBasis) (known end : Trail StoreAsk StoreTold) (histo
     → end.heard ≡ history → Behind end known → p < known.floor → IsSaid b known.heard known.told p x
     → IsSaid b history end.told p x
 closed_said b known end history p x all behind low said = subst (λ (h : List StoreAsk). IsSaid b h end.told p x) all (grown_said b known end p x behind low said)
+
+-- the same of what is told
+pub grown_told : (b : StoreBasis) (known later : Trail StoreAsk StoreTold) (p : ℕ) (a : Answer) → Behind later known
+    → p < known.floor
+    → IsToldTo b known.heard known.told p a → IsToldTo b later.heard later.told p a
+grown_told b known later p a grows low t = (t.0, grown_said b known later p (Told t.0) grows low t.1, t.2)
+
+pub closed_told : (b : StoreBasis) (known end : Trail StoreAsk StoreTold) (history : List StoreAsk) (p : ℕ)
+    (a : Answer) → end.heard ≡ history
+    → Behind end known → p < known.floor → IsToldTo b known.heard known.told p a → IsToldTo b history end.told p a
+closed_told b known end history p a all behind low t = (t.0, closed_said b known end history p (Told t.0) all behind low t.1, t.2)
+
+-- where the log tells its bytes, what is told is what is said
+pub exact : (told : Bool) (said a : Answer) → told ≡ true → IsRepliedAs told said a → said ≡ a
+exact told (Found v value) a e r = ap (Found v) (sym (subst (λ c. ValueIs c value r.0) e r.2)) ∙ sym r.1
+exact told (Stored v value) a e r = sym r
+exact told (Missing v) a e r = sym r
+exact told (Full v) a e r = sym r
+exact told (Refused code) a e r = sym r
+exact told Bye a e r = sym r

@@ -9,18 +9,17 @@ use Rattle.demi_port_core.specs.Trails.{StartsWith, Behind}
 use Rattle.demi_port_core.specs.declared.trail.Trail.{Trail}
 use Rattle.demi_spec.specs.Input.{Asked}
 use Rattle.demi_spec.specs.Reply.{Reply}
-use Rattle.demi_store.specs.History.{Told}
 use Rattle.demi_store.specs.Laws.{StoreBasis}
 use Rattle.demi_store.specs.declared.ask.StoreAsk.{StoreAsk}
 use Rattle.demi_store.specs.declared.op.StoreOp.{StoreOp}
 use Rattle.demi_store.specs.declared.op.StoreOp.TheVariants.{Stop}
 use Rattle.demi_store.specs.declared.told.StoreTold.{StoreTold}
 use Rattle.demi_served.specs.Served.{Pairwise}
-use Rattle.demi_served.specs.Asking.{Ask, asks_for, ask_of, IsSaid}
+use Rattle.demi_served.specs.Asking.{Ask, asks_for, ask_of, IsToldTo}
 use Rattle.demi_served.specs.Keeps.{Draw, Worker, IsDrawn, IsOfDraw, IsFurther, IsLaterAsk, WorkerKeeps, Link, LinkKeeps, of_link, numbered, IsReplied, RepliesKeep}
 use Rattle.demi_served.specs.Steps.{new_worker, new_link, after_draw, after_ask, after_stop, after_handing, after_drawn, after_reply, GoesBeside}
 use Rattle.demi_served.proofs.Lists.{some_is, all_append, pairwise_at, pairwise_append, get_left, get_within}
-use Rattle.demi_served.proofs.Steady.{grown_said}
+use Rattle.demi_served.proofs.Steady.{grown_told}
 
 all_more : {X : Type 0} (P Q : X → Type 0) (xs : List X) → ((x : X) → P x → Q x) → AllByRecursion P xs
     → AllByRecursion Q xs
@@ -166,7 +165,7 @@ still_replied b v w q r g (Some ask) h =
         submitted = subst (Among x) (sym g.submitted.1) (among_append x v.submitted g.submitted.0 a.submitted);
         sequence = a.sequence;
         asks = a.asks;
-        said = grown_said b v.known w.known h.0 (Told r.answer) g.known a.low a.said;
+        said = grown_told b v.known w.known h.0 r.answer g.known a.low a.said;
         low = (let up = g.known.floor in let low = a.low in omega arith);
       },
     )
@@ -298,7 +297,7 @@ link_replied b w link k q r keeps h at is d a =
 pub link_answered : (b : StoreBasis) (w : Worker) (known : Trail StoreAsk StoreTold) (q : Asked) (r : Reply)
     (s : StoreAsk) (p t place : ℕ) → Among (p, (t, s)) w.submitted → s.sequence ≡ r.sequence
     → ((x : ℕ) (d : StoreAsk) → Among (x, (t, d)) w.submitted → x ≡ place)
-    → IsSaid b known.heard known.told place (Told r.answer) → place < known.floor
+    → IsToldTo b known.heard known.told place r.answer → place < known.floor
     → IsReplied b (after_handing w known) q r (Some (asks_for s.op))
 link_answered b w known q r s p t place among number own said low =
     let same : p ≡ place = own p s among in

@@ -143,7 +143,7 @@ whole_long [] (t ∷ talks) h = absurd h
 whole_long (l ∷ links) [] h = absurd h
 whole_long (l ∷ links) (t ∷ talks) h = (h.0.each, whole_long links talks h.1)
 
-module _ (b : StoreBasis) (history : List StoreEntry) (trail : List (ℕ × StoreTold)) (run : Run) (talks : List Talk) (acc : Accounted b history trail run talks) where
+module _ (b : StoreBasis) (history : List StoreEntry) (trail : List (ℕ × StoreTold)) (run : Run) (talks : List Talk) (acc : Accounted b history trail run talks) (tells : b.told ≡ true) where
   abbrev pub asked_all : List Ask
   asked_all = asked_in (says history)
 
@@ -169,7 +169,7 @@ module _ (b : StoreBasis) (history : List StoreEntry) (trail : List (ℕ × Stor
       let k = acc.replied r.link r.index t s.0 q.1 s.1 in
       let request : k.0 ≡ Request_of (Put r.key r.value) = some_is (sym k.1 ∙ q.2) in
       let a : IsAccounted b history trail (Request_of (Put r.key r.value)) s.0 (Some (Puts r)) = subst (λ z. IsAccounted b history trail z s.0 (ask_of r.link r.index z)) request k.3 in
-      let p = placing b history trail s.0 (Puts r) a.0 a.1 in
+      let p = placing b history trail tells s.0 (Puts r) a.0 a.1 in
       let same : p.place ≡ place = acc.once p.place place p.entry x.0 r r p.here x.1 p.is x.2 refl refl in
       record {
         talk = t;
@@ -292,17 +292,18 @@ module _ (b : StoreBasis) (end : Trail StoreAsk StoreTold) (history : List Store
       chain : {s n c d : ℕ} → s - 1 < n → n ≤ c → c ≤ d → s ≤ d
       chain a e f = omega arith
 
-  pub whole : AllByRecursion (λ k. length k.drawn ≡ length k.replies) links → AllZip WholeTalk run.links talks
+  pub whole : b.told ≡ true → AllByRecursion (λ k. length k.drawn ≡ length k.replies) links
+      → AllZip WholeTalk run.links talks
       → Whole run
-  whole even read =
+  whole told even read =
       let acc = accounted b end history workers links run talks ends in
       let long = whole_long run.links talks read in
       let left = subst (λ (s : Standing). IsLeft s.fault (asked_in (says history)) ends.logged.extra) (end_is b (says history) end.told) ends.logged.left in
       record {
         talks = talks;
         read = read;
-        consistent = consistent b history end.told run talks acc;
+        consistent = consistent b history end.told run talks acc told;
         recorded = recorded b history end.told run talks acc;
         numbered = numbers even;
-        stored = stored b history end.told run talks acc long ends.logged (nothing_left b history end.told run talks acc long ends.logged.extra left);
+        stored = stored b history end.told run talks acc told long ends.logged (nothing_left b history end.told run talks acc told long ends.logged.extra left);
       }

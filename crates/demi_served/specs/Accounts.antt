@@ -1,17 +1,17 @@
 -- Accounted: what the one history of the store's port has of each reply and each record of a session.
-use Rattle.std.specs.Prelude.{◌≡◌, ◌≢◌, ℕ, ◌<◌, ◌≤◌, ◌⊎◌, true, List, [], ◌∷◌, ◌++◌, length, map, slice_get, Option, Some, None}
+use Rattle.std.specs.Prelude.{◌≡◌, ◌≢◌, ℕ, ◌<◌, ◌≤◌, ◌⊎◌, List, [], ◌∷◌, ◌++◌, length, map, slice_get, Option, Some, None}
 use Rattle.std.specs.List.{AllByRecursion}
 use Rattle.demi_port.specs.Seen.{says}
 use Rattle.demi_spec.specs.Input.{Asked}
 use Rattle.demi_spec.specs.Record.{Record}
 use Rattle.demi_spec.specs.Reply.{Reply}
-use Rattle.demi_store.specs.History.{Told, Standing, standing, struck_at}
+use Rattle.demi_store.specs.History.{Standing, standing, struck_at}
 use Rattle.demi_store.specs.Laws.{StoreBasis}
 use Rattle.demi_store.specs.declared.ask.StoreAsk.{StoreAsk}
 use Rattle.demi_store.specs.declared.told.StoreTold.{StoreTold}
 use Rattle.demi_served.specs.Talks.{Run, Talk}
 use Rattle.demi_served.specs.Served.{Pairwise, IsAsked}
-use Rattle.demi_served.specs.Asking.{Ask, Puts, Gets, Stops, asks_for, ask_of, plain_answer, IsSaid}
+use Rattle.demi_served.specs.Asking.{Ask, Puts, Gets, Stops, asks_for, ask_of, plain_answer, IsToldTo}
 
 -- an entry of the store's history: the pass, the token and what the operation says
 abbrev pub StoreEntry : Type 0
@@ -51,7 +51,7 @@ pub record IsAnsweredAt (b : StoreBasis) (history : List StoreEntry) (trail : Li
   pub worker : entry.0 ≡ r.worker
   pub sequence : entry.1.1.sequence ≡ r.sequence
   pub asks : asks_at entry ≡ ask
-  pub said : IsSaid b (says history) trail p (Told r.answer)
+  pub said : IsToldTo b (says history) trail p r.answer
 
 -- a reply whose request asks the store has an operation of its own; another is what stands for its request
 abbrev pub IsAccounted : StoreBasis → List StoreEntry → List (ℕ × StoreTold) → Asked → Reply → Option Ask → Type 0
@@ -75,10 +75,9 @@ IsNext first second = (first.worker ≡ second.worker) × (first.sequence < seco
 -- Every reply and every record of a session is accounted for by the one history of the store's port.
 pub record Accounted (b : StoreBasis) (history : List StoreEntry) (trail : List (ℕ × StoreTold)) (run : Run)
     (talks : List Talk) : Type 0 where
-  -- the base is the old records and the limit, and tells its bytes
+  -- the base is the old records and the limit
   pub old : length b.records ≡ run.old
   pub limit : b.limit ≡ run.limit
-  pub told : b.told ≡ true
   -- the log has the records of the history
   pub logged : LeftInLog b (says history) trail run.records
   -- the puts of the history are puts of the links, each at most once

@@ -1,12 +1,12 @@
 -- What the operations of the store's port ask, and what the store says to them.
-use Rattle.std.specs.Prelude.{◌≡◌, ℕ, List, [], slice_get, Option, Some, None}
+use Rattle.std.specs.Prelude.{◌≡◌, ℕ, Bool, List, [], slice_get, Option, Some, None}
 use Rattle.demi_logq.specs.Folding.{bytes_of}
 use Rattle.demi_spec.specs.Request.{Put, Get, End}
 use Rattle.demi_spec.specs.Input.{Asked, Request_of, Refused_end}
 use Rattle.demi_spec.specs.Record.{Record}
 use Rattle.demi_spec.specs.Reply.{Answer, Stored, Found, Missing, Refused, Bye, Full}
-use Rattle.demi_store.specs.History.{Said, record_of_put}
-use Rattle.demi_store.specs.Laws.{StoreBasis, said_to}
+use Rattle.demi_store.specs.History.{Said, Told, record_of_put}
+use Rattle.demi_store.specs.Laws.{StoreBasis, ValueIs, said_to}
 use Rattle.demi_store.specs.declared.answer.StoreAnswer.{StoreAnswer}
 use Rattle.demi_store.specs.declared.answer.StoreAnswer.TheVariants as said
 use Rattle.demi_store.specs.declared.ask.StoreAsk.{StoreAsk}
@@ -46,6 +46,16 @@ pub record IsSaid (b : StoreBasis) (history : List StoreAsk) (trail : List (ℕ 
   pub asked : StoreAsk
   pub here : slice_get history p ≡ Some asked
   pub result : said_to b history trail p asked ≡ said
+
+-- What is replied where the store says this: the same, but that of a value found in a log that does not tell its bytes
+-- the number of its bytes alone is bound.
+abbrev pub IsRepliedAs : Bool → Answer → Answer → Type 0
+IsRepliedAs told (Found v value) a = (bytes : List ℕ) × (a ≡ Found v bytes) × ValueIs told value bytes
+IsRepliedAs told said a = a ≡ said
+
+-- the operation at the place p is told what is replied so
+abbrev pub IsToldTo : StoreBasis → List StoreAsk → List (ℕ × StoreTold) → ℕ → Answer → Type 0
+IsToldTo b history trail p a = (said : Answer) × IsSaid b history trail p (Told said) × IsRepliedAs b.told said a
 
 -- what is replied for an outcome: its answer, with the bytes that came back
 abbrev pub answer_with : StoreAnswer → Back → Option Answer

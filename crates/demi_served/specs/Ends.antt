@@ -1,5 +1,5 @@
 -- What is known of the store where its port is closed and its workers have come back.
-use Rattle.std.specs.Prelude.{◌≡◌, ℕ, ◌+◌, ◌<◌, true, List, [], ◌∷◌, length, slice_get, Some}
+use Rattle.std.specs.Prelude.{◌≡◌, ℕ, ◌+◌, ◌<◌, List, [], ◌∷◌, length, slice_get, Some}
 use Rattle.std.specs.List.{AllByRecursion, AllZip}
 use mathlib.Core.Option.{some}
 use lib.ListN.{get_elem?}
@@ -59,7 +59,6 @@ pub record StoreEnds (b : StoreBasis) (end : Trail StoreAsk StoreTold) (history 
     (workers : List Worker) (links : List Link) (run : Run) (talks : List Talk) : Type 0 where
   pub old : length b.records ≡ run.old
   pub limit : b.limit ≡ run.limit
-  pub told : b.told ≡ true
   pub logged : LeftInLog b (says history) end.told run.records
   pub closed : PortClosed end history workers
   pub kept : AllByRecursion WorkerKeeps workers

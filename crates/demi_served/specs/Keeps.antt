@@ -5,12 +5,11 @@ use Rattle.demi_port_core.specs.History.{Among}
 use Rattle.demi_port_core.specs.declared.trail.Trail.{Trail}
 use Rattle.demi_spec.specs.Input.{Asked}
 use Rattle.demi_spec.specs.Reply.{Reply}
-use Rattle.demi_store.specs.History.{Told}
 use Rattle.demi_store.specs.Laws.{StoreBasis}
 use Rattle.demi_store.specs.declared.ask.StoreAsk.{StoreAsk}
 use Rattle.demi_store.specs.declared.told.StoreTold.{StoreTold}
 use Rattle.demi_served.specs.Served.{Pairwise}
-use Rattle.demi_served.specs.Asking.{Ask, asks_for, ask_of, plain_answer, IsSaid}
+use Rattle.demi_served.specs.Asking.{Ask, asks_for, ask_of, plain_answer, IsToldTo}
 use Rattle.demi_served.specs.Accounts.{IsNoStop, IsLater}
 
 -- for what a worker drew a sequence number: a link, an index on it, and the request there
@@ -71,7 +70,7 @@ pub record IsAnswered (b : StoreBasis) (w : Worker) (ask : Ask) (r : Reply) (p :
   pub submitted : Among (p, (token, asked)) w.submitted
   pub sequence : asked.sequence ≡ r.sequence
   pub asks : asks_for asked.op ≡ ask
-  pub said : IsSaid b w.known.heard w.known.told p (Told r.answer)
+  pub said : IsToldTo b w.known.heard w.known.told p r.answer
   pub low : p < w.known.floor
 
 -- a reply to a request that asks the store was asked; another is what stands for its request

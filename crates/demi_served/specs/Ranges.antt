@@ -1,5 +1,5 @@
 -- What is asked and replied is in range.
-use Rattle.std.specs.Prelude.{ℕ, ◌≤◌}
+use Rattle.std.specs.Prelude.{◌≤◌}
 use Rattle.demi_spec.specs.Request.{IsRequest}
 use Rattle.demi_spec.specs.Input.{Asked, Request_of, Refused_end}
 

@@ -1,5 +1,5 @@
 // One link and one worker.
-ghost use Rattle.std.specs.Prelude.{◌≡◌, ◌⊎◌, ◌≤◌, ◌+◌, ℕ, List, [], ◌∷◌, take, drop, flat_map, length, None, Some};
+ghost use Rattle.std.specs.Prelude.{◌≡◌, ◌⊎◌, ◌≤◌, ◌+◌, ℕ, List, [], ◌∷◌, take, drop, flat_map, length, true, None, Some};
 ghost use Rattle.demi_port_core.specs.Trails.{StartsWith};
 ghost use Rattle.demi_port_core.specs.declared.trail.Trail.{Trail};
 ghost use Rattle.demi_spec.specs.Input.{Asked};
@@ -32,21 +32,24 @@ pub fn an_only_link_is_served_in_order()
     ensures handed_again { (w : Worker) (known : Trail StoreAsk StoreTold) → AskedAll w
         → AskedAll (after_handing w known) }
     ensures replies { (b : StoreBasis) (end : Trail StoreAsk StoreTold) (history : List StoreEntry) (w : Worker)
-        (k : Link) (run : Run) (t : Talk) → StoreEnds b end history (w ∷ []) (k ∷ []) run (t ∷ []) → AskedAll w
+        (k : Link) (run : Run) (t : Talk) → StoreEnds b end history (w ∷ []) (k ∷ []) run (t ∷ [])
+        → b.told ≡ true → AskedAll w
         → t.replies ≡ take (length t.replies) (serial b.records b.limit t.asks).replies }
     ensures all { (b : StoreBasis) (end : Trail StoreAsk StoreTold) (history : List StoreEntry) (w : Worker)
-        (k : Link) (run : Run) (t : Talk) → StoreEnds b end history (w ∷ []) (k ∷ []) run (t ∷ []) → AskedAll w
+        (k : Link) (run : Run) (t : Talk) → StoreEnds b end history (w ∷ []) (k ∷ []) run (t ∷ [])
+        → b.told ≡ true → AskedAll w
         → length t.replies ≡ length t.asks → t.replies ≡ (serial b.records b.limit t.asks).replies }
     // what was written begins what the store on one thread writes
     ensures output { (written : List ℕ) (replies full : List Reply) → Torn written replies
         → replies ≡ take (length replies) full → StartsWith (flat_map spelling full) written }
     ensures records { (b : StoreBasis) (end : Trail StoreAsk StoreTold) (history : List StoreEntry) (w : Worker)
         (k : Link) (run : Run) (t : Talk) → (ends : StoreEnds b end history (w ∷ []) (k ∷ []) run (t ∷ []))
-        → AskedAll w
+        → b.told ≡ true → AskedAll w
         → ends.logged.extra ≡ [] → length t.replies ≡ length k.drawn
         → drop run.old run.records ≡ (serial b.records b.limit (take (length t.replies) t.asks)).records }
     ensures more { (b : StoreBasis) (end : Trail StoreAsk StoreTold) (history : List StoreEntry) (w : Worker)
-        (k : Link) (run : Run) (t : Talk) → StoreEnds b end history (w ∷ []) (k ∷ []) run (t ∷ []) → AskedAll w
+        (k : Link) (run : Run) (t : Talk) → StoreEnds b end history (w ∷ []) (k ∷ []) run (t ∷ [])
+        → b.told ≡ true → AskedAll w
         → length k.drawn ≤ length t.replies + 1
         → (drop run.old run.records ≡ (serial b.records b.limit (take (length t.replies) t.asks)).records) ⊎
         (drop run.old run.records ≡ (serial b.records b.limit (take (length t.replies + 1) t.asks)).records) }

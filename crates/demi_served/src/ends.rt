@@ -1,5 +1,5 @@
 // What the ends of a session show.
-ghost use Rattle.std.specs.Prelude.{◌≡◌, ◌≤◌, ℕ, Bool, List, drop, length};
+ghost use Rattle.std.specs.Prelude.{◌≡◌, ◌≤◌, ℕ, Bool, true, List, drop, length};
 ghost use Rattle.std.specs.List.{AllByRecursion, AllZip};
 ghost use Rattle.demi_port_core.specs.declared.trail.Trail.{Trail};
 ghost use Rattle.demi_spec.specs.Request.{IsBytes};
@@ -33,11 +33,11 @@ pub fn a_closed_session_is_accounted()
         → SessionAccounted b history end.told ports (length workers) memory run talks }
 {}
 
-/// Where one history accounts for each reply and each record, the replies are answers of one store and the records are
-/// the links' puts.
+/// Where one history accounts for each reply and each record, the records are the links' puts, and the replies are answers of
+/// one store where its log tells its bytes.
 pub fn an_accounted_session_is_consistent()
     ensures consistent { (b : StoreBasis) (history : List StoreEntry) (trail : List (ℕ × StoreTold)) (run : Run)
-        (talks : List Talk) → Accounted b history trail run talks → Consistent run talks }
+        (talks : List Talk) → b.told ≡ true → Accounted b history trail run talks → Consistent run talks }
     ensures recorded { (b : StoreBasis) (history : List StoreEntry) (trail : List (ℕ × StoreTold)) (run : Run)
         (talks : List Talk) → Accounted b history trail run talks → Recorded run talks }
 {}
@@ -45,7 +45,7 @@ pub fn an_accounted_session_is_consistent()
 /// The ends of a session's store port, workers and links, with what was read and written of each link: the session served.
 pub fn a_closed_session_is_served()
     ensures served { (b : StoreBasis) (end : Trail StoreAsk StoreTold) (history : List StoreEntry)
-        (workers : List Worker) (links : List Link) (run : Run) (talks : List Talk)
+        (workers : List Worker) (links : List Link) (run : Run) (talks : List Talk) → b.told ≡ true
         → StoreEnds b end history workers links run talks → AllZip TornTalk run.links talks → Served run }
 {}
 
@@ -53,7 +53,7 @@ pub fn a_closed_session_is_served()
 pub fn a_session_without_fault_is_whole()
     ensures whole { (b : StoreBasis) (end : Trail StoreAsk StoreTold) (history : List StoreEntry)
         (workers : List Worker) (links : List Link) (run : Run) (talks : List Talk)
-        → StoreEnds b end history workers links run talks
+        → StoreEnds b end history workers links run talks → b.told ≡ true
         → AllByRecursion (λ k. length k.drawn ≡ length k.replies) links → AllZip WholeTalk run.links talks
         → Whole run }
 {}
@@ -67,7 +67,7 @@ pub fn a_whole_session_served()
 pub fn an_accounted_session_served()
     ensures served { (b : StoreBasis) (history : List StoreEntry) (trail : List (ℕ × StoreTold))
         (ports : List LinkPorts) (workers : ℕ) (memory : List MemEntry) (run : Run) (talks : List Talk)
-        → SessionAccounted b history trail ports workers memory run talks → Served run }
+        → b.told ≡ true → SessionAccounted b history trail ports workers memory run talks → Served run }
 {}
 
 /// What a text of bytes asks is in range. So is each answer that stands for it, where the log's records are and no more than a

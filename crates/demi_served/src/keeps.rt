@@ -11,7 +11,7 @@ ghost use Rattle.demi_store.specs.Laws.{StoreBasis};
 ghost use Rattle.demi_store.specs.declared.ask.StoreAsk.{StoreAsk};
 ghost use Rattle.demi_store.specs.declared.op.StoreOp.{StoreOp};
 ghost use Rattle.demi_store.specs.declared.told.StoreTold.{StoreTold};
-ghost use Rattle.demi_served.specs.Asking.{Ask, IsSaid, asks_for, ask_of};
+ghost use Rattle.demi_served.specs.Asking.{Ask, IsSaid, IsToldTo, asks_for, ask_of};
 ghost use Rattle.demi_served.specs.Keeps.{Draw, Worker, Link, WorkerKeeps, LinkKeeps, of_link, numbered, IsDrawn, IsReplied};
 ghost use Rattle.demi_served.specs.Steps.{new_worker, new_link, after_draw, after_ask, after_stop, after_handing, after_drawn, after_reply, GoesBeside};
 
@@ -50,7 +50,7 @@ pub fn a_link_keeps()
     ensures answered { (b : StoreBasis) (w : Worker) (known : Trail StoreAsk StoreTold) (q : Asked) (r : Reply)
         (s : StoreAsk) (p t place : ℕ) → Among (p, (t, s)) w.submitted → s.sequence ≡ r.sequence
         → ((x : ℕ) (d : StoreAsk) → Among (x, (t, d)) w.submitted → x ≡ place)
-        → IsSaid b known.heard known.told place (Told r.answer) → place < known.floor
+        → IsToldTo b known.heard known.told place r.answer → place < known.floor
         → IsReplied b (after_handing w known) q r (Some (asks_for s.op)) }
     ensures waits { (b : StoreBasis) (v w : Worker) (link : ℕ) (q : Asked) (r : Reply) (ask : Option Ask)
         → GoesBeside link v w → IsReplied b v q r ask → IsReplied b w q r ask }

@@ -1,28 +1,27 @@
 // What the clauses of ports, devices and engines give, in the form in which they give it.
-ghost use Rattle.std.specs.Prelude.{◌≡◌, ◌<◌, ℕ, List, true, length, Some};
+ghost use Rattle.std.specs.Prelude.{◌≡◌, ◌<◌, ℕ, List, length, Some};
 ghost use mathlib.Core.Option.{some};
 ghost use lib.ListN.{get_elem?};
 ghost use Rattle.demi_port.specs.Seen.{known_at, known_by, says};
 ghost use Rattle.demi_port_core.specs.History.{Each, of_pass, ground_of};
 ghost use Rattle.demi_port_core.specs.Trails.{Behind, StartsWith};
 ghost use Rattle.demi_spec.specs.Reply.{Answer};
-ghost use Rattle.demi_store.specs.History.{Told};
 ghost use Rattle.demi_store.specs.Laws.{StoreBasis, Admits};
 ghost use Rattle.demi_store.specs.declared.ask.StoreAsk.{StoreAsk};
 ghost use Rattle.demi_store.specs.declared.out.StoreOut.{StoreOut};
 ghost use Rattle.demi_store.specs.declared.told.StoreTold.{StoreTold};
-ghost use Rattle.demi_served.specs.Asking.{IsSaid, reply_for};
+ghost use Rattle.demi_served.specs.Asking.{IsToldTo, reply_for};
 ghost use Rattle.demi_served.specs.Accounts.{StoreEntry};
 ghost use Rattle.demi_served.specs.Keeps.{Worker};
 ghost use Rattle.demi_served.specs.Ends.{StorePass, StoreEnd, PassesOf, PortClosed};
 
 use demi_port_core::Law;
 
-/// An outcome that the store's law admits, where the log tells its bytes, is replied as the one-thread store answers: its
-/// answer, with the bytes that came back in the value or the room.
+/// An outcome that the store's law admits is replied as the one-thread store answers: its answer, with the bytes that came
+/// back in the value or the room. Of a log that does not tell its bytes those of a found value are free, but not their number.
 pub fn an_outcome_is_replied()
-    ensures said { (b : StoreBasis) (h : List StoreAsk) (t : List (ℕ × StoreTold)) (p : ℕ) (out : StoreOut)
-        (a : Answer) → b.told ≡ true → Admits b h t p out → reply_for out ≡ Some a → IsSaid b h t p (Told a) }
+    ensures told { (b : StoreBasis) (h : List StoreAsk) (t : List (ℕ × StoreTold)) (p : ℕ) (out : StoreOut)
+        (a : Answer) → Admits b h t p out → reply_for out ≡ Some a → IsToldTo b h t p a }
 {}
 
 /// What a store's port that was closed ensures of its passes is what is asked of a closed port, where each worker kept
