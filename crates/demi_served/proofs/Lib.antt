@@ -16,3 +16,9 @@ mod AsksAll
 mod Orders
 mod Leaves
 mod OnlyLink
+mod Outcomes
+mod ClosedPorts
+mod Flows
+mod Writes
+mod LinkEnds
+mod Endings

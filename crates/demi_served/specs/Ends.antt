@@ -1,9 +1,9 @@
 -- What is known of the store where its port is closed and its workers have come back.
-use Rattle.std.specs.Prelude.{◌≡◌, ℕ, ◌<◌, Bool, true, List, length, slice_get, Some}
+use Rattle.std.specs.Prelude.{◌≡◌, ℕ, ◌+◌, ◌<◌, Bool, true, List, [], ◌∷◌, length, slice_get, Some}
 use Rattle.std.specs.List.{AllByRecursion, AllZip}
 use mathlib.Core.Option.{some}
 use lib.ListN.{get_elem?}
-use Rattle.demi_port.specs.Seen.{says}
+use Rattle.demi_port.specs.Seen.{PassValue, EndValue, known_by, says}
 use Rattle.demi_port_core.specs.History.{of_pass}
 use Rattle.demi_port_core.specs.Trails.{StartsWith, Behind}
 use Rattle.demi_port_core.specs.declared.trail.Trail.{Trail}
@@ -14,6 +14,25 @@ use Rattle.demi_served.specs.Talks.{Run, Talk}
 use Rattle.demi_served.specs.Served.{Placed}
 use Rattle.demi_served.specs.Accounts.{Entry, Logged}
 use Rattle.demi_served.specs.Keeps.{Draw, Worker, WorkerKeeps, Link, LinkKeeps}
+
+-- a pass of the store's port, and the port's end, as contracts see them
+abbrev pub StorePass : Type 0
+StorePass = PassValue StoreAsk StoreTold StoreBasis
+
+abbrev pub StoreEnd : Type 0
+StoreEnd = EndValue StoreAsk StoreTold StoreBasis
+
+-- the pass is that of the worker of this number: it submitted what the worker did, and was handed what the worker was
+pub record IsPassOf (n : ℕ) (w : Worker) (p : StorePass) : Type 0 where
+  pub number : p.number ≡ n
+  pub submitted : w.submitted ≡ p.submitted
+  pub known : w.known ≡ known_by p
+
+-- each worker has its pass, in order; the first has this number
+abbrev pub PassesOf : ℕ → List Worker → List StorePass → Type 0
+PassesOf n [] [] = Unit {0}
+PassesOf n (w ∷ workers) (p ∷ passes) = IsPassOf n w p × PassesOf (n + 1) workers passes
+PassesOf n workers passes = ⊥
 
 -- The store's port was closed: the device heard all that its history says, each worker's pass has its own entries,
 -- there are no others, and what a pass was handed begins what there is.

@@ -7,3 +7,6 @@ pub mod Keeps
 pub mod Steps
 pub mod Ends
 pub mod Alone
+pub mod Reading
+pub mod Writing
+pub mod Links

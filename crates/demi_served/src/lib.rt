@@ -14,10 +14,16 @@
 mod alone;
 mod ends;
 mod keeps;
+mod links;
+mod ports;
 
 pub use alone::an_only_link_is_served_in_order;
 pub use ends::{
     a_closed_session_is_accounted, a_closed_session_is_served, a_session_without_fault_is_whole,
     a_whole_session_served, an_accounted_session_is_consistent,
 };
+pub use links::{
+    a_link_reads_and_writes, a_receiving_port_ends, a_sending_port_ends, a_text_that_ended_asks_on,
+};
+pub use ports::{a_closed_port_has_its_workers, an_engine_was_served_all, an_outcome_is_replied};
 pub use keeps::{a_link_keeps, a_worker_keeps, other_links_are_beside, what_was_said_stays};
