@@ -1,0 +1,4 @@
+pub mod Events
+pub mod Sights
+pub mod Stores
+pub mod Talks
