@@ -1,4 +1,7 @@
+pub mod Causes
 pub mod Events
+pub mod Fitting
+pub mod Noting
 pub mod Sights
 pub mod Stores
 pub mod Talks

@@ -10,19 +10,20 @@ use Rattle.demi_served.specs.Steps.{new_link}
 
 -- What a link did: the requests that it drew numbers for and the replies that it pushed; the outcomes of its pops, with
 -- their places; the requests that its decoder handed out; the code of a refused end; the places of the pushes that were
--- written; and the request and the reply at hand.
+-- written; and the place of an outcome, the request and the reply at hand.
 pub record TalkValue : Type 0 where
   pub kept : Link
   pub outs : List (ℕ × RxOut)
   pub handed : List Request
   pub refused : Option ℕ
   pub written : List ℕ
+  pub place : ℕ
   pub request : Asked
   pub reply : Reply
 
 -- a link of this worker that did nothing
 abbrev pub new_talk : ℕ → TalkValue
-new_talk number = record { kept = new_link number; outs = []; handed = []; refused = None; written = []; request = Request_of End; reply = record { worker = 0; sequence = 0; answer = Bye } }
+new_talk number = record { kept = new_link number; outs = []; handed = []; refused = None; written = []; place = 0; request = Request_of End; reply = record { worker = 0; sequence = 0; answer = Bye } }
 
 -- a refused end counts as one more request
 abbrev pub refusal : Option ℕ → List Asked

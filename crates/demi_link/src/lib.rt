@@ -2,6 +2,8 @@
 #![tactic(auto)]
 
 mod calls;
+mod desk;
+mod notes;
 mod phase;
 mod talk;
 

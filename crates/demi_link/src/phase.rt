@@ -1,7 +1,7 @@
 //! Where a link stands between polls.
 use demi_port_core::QToken;
 use demi_sga::{AppSga, LentSga};
-use demi_store::StoreOp;
+use demi_store::{StoreAnswer, StoreOp};
 
 /// Why a link is over.
 #[derive(Clone, Copy, Debug, PartialEq, Eq)]
@@ -35,12 +35,10 @@ pub enum Kind {
     Refused(u8),
 }
 
-/// A reply but for its worker and its buffers.
+/// A reply to what the store answered, but for its worker and its head.
 pub struct Draft {
-    /// The kind of a reply frame.
-    pub kind: u8,
+    pub answer: StoreAnswer,
     pub sequence: u64,
-    pub version: u64,
     /// The bytes that follow its head, where there are any.
     pub body: Option<AppSga>,
 }
