@@ -7,7 +7,7 @@ use Rattle.demi_frame.specs.declared.decoder.Step.TheVariants as step
 use Rattle.demi_heap.specs.Seen.{HalfValue, HeapId}
 use Rattle.demi_port_core.specs.History.{Among}
 use Rattle.demi_port_core.specs.declared.place.QToken.{QToken}
-use Rattle.demi_buf.specs.declared.class.Class.TheVariants.{Large}
+use Rattle.demi_buf.specs.declared.class.Class.TheVariants.{Small, Large}
 use Rattle.demi_sga.specs.Arrays.{AreOf, LentValue}
 use Rattle.demi_spec.specs.Request.{Request, Put, Get, End, IsRequest}
 use Rattle.demi_spec.specs.Input.{Asked, Request_of, Refused_end, Parses}
@@ -28,10 +28,12 @@ use Rattle.demi_streamq.specs.declared.rx_out.RxOut.{RxOut}
 use Rattle.demi_streamq.specs.declared.rx_told.RxTold.{RxTold}
 use Rattle.demi_streamq.specs.declared.tx_op.TxOp.{TxOp}
 use Rattle.demi_streamq.specs.declared.tx_op.TxOp.TheVariants as tx
+use Rattle.demi_streamq.specs.declared.tx_out.TxOut.{TxOut}
 use Rattle.demi_streamq.specs.declared.tx_out.TxOut.TheVariants.{Pushed}
 use Rattle.demi_served.specs.Asking.{asks_for, ask_of}
 use Rattle.demi_served.specs.Keeps.{Worker, WorkerKeeps, LinkKeeps, IsDrawn, IsReplied, of_link, numbered}
 use Rattle.demi_served.specs.Writing.{texts_of}
+use Rattle.demi_link.specs.Noting.{after_taken}
 use Rattle.demi_link.specs.Sights.{Redeems, Side, Sight, worker_of}
 use Rattle.demi_link.specs.Stores.{halves_in, halves_back}
 use Rattle.demi_link.specs.Talks.{DeskValue, TalkValue, read_by}
@@ -87,7 +89,7 @@ pub record Keeps (s : Sight) (d : DeskValue) : Type 0 where
   pub own : of_link d.link s.draws ≡ numbered d.link 0 d.talk.kept.drawn
   pub kept : s.base.told ≡ true → LinkKeeps s.base (worker_of s) d.link d.talk.kept
   pub fits : AllByRecursion IsReply d.talk.kept.replies
-  pub number : (d.talk.kept.worker ≡ s.number) × (d.worker ≡ s.number)
+  pub number : (d.talk.kept.worker ≡ s.number) × (d.worker ≡ s.number) × (s.number ≤ 255)
   pub index : d.index ≡ length d.talk.kept.drawn
   pub reads : Reads s.rx d.talk
   pub writes : Writes s.tx d.talk
@@ -139,7 +141,7 @@ IsBehind (Some other) d = ⊥
 -- the halves of an operation are of this heap, and the lent halves are those of its value
 abbrev pub HasHalves : HeapId → Option LentValue → StoreOp → Type 0
 HasHalves heap None (op.Put link index key None) = Unit {0}
-HasHalves heap (Some half) (op.Put link index key (Some sga)) = (half.segments ≡ sga) × (half.back ≡ 0) × AreOf heap sga
+HasHalves heap (Some half) (op.Put link index key (Some sga)) = (half.segments ≡ sga) × (half.back ≡ 0) × AreOf heap sga × (length sga ≡ 1)
 HasHalves heap None (op.Get key room) = (room.heap ≡ heap) × (room.class ≡ Large)
 HasHalves heap half other = ⊥
 
@@ -186,7 +188,6 @@ pub record IsPending (s : Sight) (d : DeskValue) (token sequence : ℕ) (half : 
 -- The reply at hand is that of the request at hand.
 pub record IsReady (s : Sight) (d : DeskValue) : Type 0 where
   pub worker : d.talk.reply.worker ≡ d.talk.kept.worker
-  pub fits : IsReply d.talk.reply
   pub drawn : IsDrawn s.draws d.talk.reply.sequence (record { link = d.link; index = length d.talk.kept.replies; request = d.talk.request })
   pub replied : s.base.told ≡ true → IsReplied s.base (worker_of s) d.talk.request d.talk.reply (ask_of d.link (length d.talk.kept.replies) d.talk.request)
 
@@ -224,8 +225,8 @@ Agrees ports s d (Holding half asked) = GoesOn d × HasRoom d × IsAtHand d.talk
     × (ask_of d.link d.index d.talk.request ≡ Some (asks_for asked)) × IsProperOp asked × HasHalves s.heap half asked
 Agrees ports s d (Waiting token sequence half) = GoesOn d × IsAsked d.talk × AllTaken s d × AllWritten s d × (s.out ≡ lent_out half) × (token.port < ports) × IsPending s d token.token.0 sequence half
 Agrees ports s d (Replying draft) = GoesOn d × IsAsked d.talk × AllTaken s d × AllWritten s d × (s.out ≡ length (body_of draft.body)) × IsReady s d × AreOf s.heap (body_of draft.body) × (length (body_of draft.body) ≤ 1)
-    × IsSent draft.answer draft.body × (d.talk.reply ≡ reply_as d.talk.kept.worker draft)
-Agrees ports s d (Sending sga behind) = IsBehind behind d × IsAsked d.talk × AllTaken s d × AllWritten s d × (s.out ≡ length sga) × IsReady s d × AreOf s.heap sga × (array_bytes sga ≡ spelling d.talk.reply)
+    × (length (array_bytes (body_of draft.body)) ≤ 65536) × IsSent draft.answer draft.body × (d.talk.reply ≡ reply_as d.talk.kept.worker draft)
+Agrees ports s d (Sending sga behind) = IsBehind behind d × IsAsked d.talk × AllTaken s d × AllWritten s d × (s.out ≡ length sga) × IsReady s d × AreOf s.heap sga × (array_bytes sga ≡ spelling d.talk.reply) × IsReply d.talk.reply
 Agrees ports s d (Pushing token behind) = IsBehind behind d × IsEven d.talk × AllTaken s d × (token.port < ports) × IsPushing s d token.token.0 × (s.out ≡ 0)
 Agrees ports s d (Over cause) = IsOver s d cause
 Agrees ports s d Between = ⊥
@@ -252,3 +253,49 @@ pub record Told (ports : ℕ) (s : Sight) (d : DeskValue) (sequence : ℕ) (half
   pub fits : Fits ports before d (Waiting token sequence half)
   pub redeems : Redeems (λ h t p. Admits before.base h t p outcome) token.token.0 place before.store s.store
   pub is : s ≡ record before { store = s.store; out = before.out + halves_back outcome }
+
+-- The push of a link that waited for it came to this outcome, at this place.
+pub record Wrote (ports : ℕ) (s : Sight) (d : DeskValue) (place : ℕ) (behind : Option Cause) (outcome : TxOut) : Type 0 where
+  pub before : Sight
+  pub token : QToken
+  pub fits : Fits ports before d (Pushing token behind)
+  pub redeems : Redeems (λ h t p. TxAdmits h t p outcome) token.token.0 place before.tx s.tx
+  pub is : s ≡ record before { tx = s.tx }
+
+-- The link has noted the outcome of its pop, and its decoder was not told yet.
+pub record Noted (ports : ℕ) (s : Sight) (d : DeskValue) (outcome : RxOut) : Type 0 where
+  pub was : TalkValue
+  pub now : d.talk ≡ after_taken was was.place outcome
+  pub took : Took ports s (record d { talk = was }) was.place outcome
+
+-- a small half of this heap
+abbrev pub IsSmall : HeapId → HalfValue → Type 0
+IsSmall heap half = (half.heap ≡ heap) × (half.class ≡ Small)
+
+-- The link asked its decoder, which has no more.
+pub record IsHungry (ports : ℕ) (s : Sight) (d : DeskValue) : Type 0 where
+  pub reading : Fits ports s d Reading
+  pub room : HasRoom d
+  pub hungry : d.decoder.hungry ≡ true
+
+-- The link stands there, and has claimed so many more halves.
+pub record HasClaimed (ports : ℕ) (s : Sight) (d : DeskValue) (phase : Phase) (count : ℕ) : Type 0 where
+  pub before : Sight
+  pub fits : Fits ports before d phase
+  pub is : s ≡ record before { out = before.out + count }
+
+-- the link, with the reply that a draft says at hand
+abbrev pub with_reply : DeskValue → Draft → DeskValue
+with_reply d draft = record d { talk = record d.talk { reply = reply_as d.talk.kept.worker draft } }
+
+abbrev pub HasEnded : Phase → Type 0
+HasEnded Reading = ⊥
+HasEnded (Popping token) = ⊥
+HasEnded (Asking kind) = ⊥
+HasEnded (Holding half asked) = ⊥
+HasEnded (Waiting token sequence half) = ⊥
+HasEnded (Replying draft) = ⊥
+HasEnded (Sending sga behind) = ⊥
+HasEnded (Pushing token behind) = ⊥
+HasEnded (Over cause) = Unit {0}
+HasEnded Between = ⊥

@@ -131,7 +131,7 @@ pub trait Calls: Scanner {
         requires proper { IsProperOp op }
         requires out { halves_in op ≤ (sight self.old link).out }
         ensures port { IfOk result (λ r. r.0.port < Self.ports self.old) }
-        ensures number { IfOk result (λ r. r.1 ≡ length (sight self.old link).draws + 1) }
+        ensures number { IfOk result (λ r. (r.1 ≡ length (sight self.old link).draws + 1) × (r.1 ≤ 18446744073709551615)) }
         ensures ok { IfOk result (λ r. (place : ℕ) × Submits place (sight self.old link).store (sight self.new link).store r.0.token.0 (record { sequence = r.1; op = op })) }
         ensures only { IfOk result (λ r. (sight self.new link ≡ record (sight self.old link) { store = (sight self.new link).store; draws = (sight self.old link).draws ++ record { link = link; index = length talk.now.value.kept.drawn; request = talk.now.value.request } ∷ []; out = (sight self.old link).out - halves_in op }) × Adds (events self.old) (events self.new) (Gave r.0)) }
         ensures err { IfErr result (λ o. (o ≡ op) × (sight self.new link ≡ sight self.old link) × Adds (events self.old) (events self.new) NoTokenFound) }

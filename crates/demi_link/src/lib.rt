@@ -1,10 +1,19 @@
 //! The coroutine of a link.
 #![tactic(auto)]
 
+mod answering;
+mod asking;
+mod buffers;
 mod calls;
 mod desk;
+mod giving;
 mod notes;
 mod phase;
+mod plainly;
+mod poll;
+mod reading;
+mod sending;
+mod stand;
 mod talk;
 
 pub use calls::{Calls, NoToken};

@@ -4,7 +4,6 @@ ghost use Rattle.demi_spec.specs.Request.{End};
 ghost use Rattle.demi_spec.specs.Input.{Request_of, Refused_end};
 ghost use Rattle.demi_served.specs.Asking.{plain_answer};
 ghost use Rattle.demi_served.specs.Steps.{after_drawn, after_reply};
-ghost use Rattle.demi_streamq.specs.declared.rx_out.RxOut.TheVariants.{Piece};
 ghost use Rattle.demi_link.specs.Fitting.{reply_as};
 ghost use Rattle.demi_link.specs.Noting.{after_found, after_taken};
 
@@ -12,7 +11,6 @@ use crate::phase::Draft;
 use crate::talk::Talk;
 use demi_device::Mark;
 use demi_frame::Decoder;
-use demi_heap::AppBuf;
 use demi_port_core::Place;
 use demi_streamq::RxOut;
 
@@ -44,14 +42,7 @@ pub(crate) fn one_placed(talk: &Mark<Talk>, place: Place) -> Mark<Talk>
     Mark::from(talk, &place)
 }
 
-// The pop at the place at hand came to a piece.
-pub(crate) fn one_piece(talk: &Mark<Talk>, buf: &AppBuf) -> Mark<Talk>
-    ensures { result.value ≡ after_taken talk.now.value talk.now.value.place (Piece buf.now) }
-{
-    Mark::from(talk, buf)
-}
-
-// It came to an outcome without a buffer.
+// The pop at the place at hand came to an outcome.
 pub(crate) fn one_taken(talk: &Mark<Talk>, outcome: &RxOut) -> Mark<Talk>
     ensures { result.value ≡ after_taken talk.now.value talk.now.value.place outcome.now }
 {

@@ -1,6 +1,0 @@
-use Rattle.demi_streamq.specs.declared.rx_out.RxOut.TheVariants.{Piece}
-use Rattle.demi_link.specs.Noting.{after_taken}
-use Rattle.demi_link.proofs.notes.one_piece.Given as goal
-
-abbrev pub ghost-from : goal.ghost-from
-ghost-from a = after_taken a._first.now.value a._first.now.value.place (Piece a._second.now)
