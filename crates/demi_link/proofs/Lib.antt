@@ -1,0 +1,4 @@
+pub mod Arriving
+pub mod Lists
+pub mod Pushes
+pub mod Sides

@@ -1,4 +1,5 @@
 pub mod Causes
+pub mod Desks
 pub mod Events
 pub mod Fitting
 pub mod Giving

@@ -1,6 +1,7 @@
 //! The steps of a link that was answered by the store.
 ghost use Rattle.std.specs.Prelude.{◌≡◌, ◌<◌, ◌≤◌, ◌+◌, ◌++◌, ◌∷◌, [], ℕ, List, ◌⊎◌, IfOk, IfErr, length};
 ghost use Rattle.demi_link.specs.Causes.{Answers, Caused};
+ghost use Rattle.demi_link.specs.Desks.{desk_of};
 ghost use Rattle.demi_link.specs.Events.{Adds, Event, RxCame, StoreCame, store_came};
 ghost use Rattle.demi_link.specs.Fitting.{Fits, IsHungry, Noted, Took, Told};
 ghost use Rattle.demi_link.specs.declared.phase.Phase.TheVariants.{Reading as reading, Popping as popping, Asking as asking, Holding as holding, Waiting as waiting, Replying as replying, Sending as sending, Pushing as pushing};
@@ -39,8 +40,8 @@ fn kind_of(answer: StoreAnswer) -> (u8, u64)
 impl Desk {
     // Takes what the store answered, if it is there.
     pub(crate) fn answered<C: Calls>(&mut self, token: QToken, sequence: u64, half: Option<LentSga>, cx: &mut C) -> Stand
-        requires { Fits (C.ports cx.old) (C.sight cx.old self.old.link) self.old (waiting token sequence half) }
-        ensures fits { Fits (C.ports cx.new) (C.sight cx.new self.old.link) self.new result.phase }
+        requires { Fits (C.ports cx.old) (C.sight cx.old self.old.link) (desk_of self.old) (waiting token sequence half) }
+        ensures fits { Fits (C.ports cx.new) (C.sight cx.new self.old.link) (desk_of self.new) result.phase }
         ensures link { self.new.link ≡ self.old.link }
         ensures answers { Answers result.phase result.next }
         ensures cause { Caused (C.events cx.old) (C.events cx.new) self.new.index result.phase }
@@ -63,8 +64,8 @@ impl Desk {
 
     // Takes the value or the room back, and replies or is over.
     fn told<C: Calls>(&mut self, sequence: u64, half: Option<LentSga>, outcome: StoreOut, cx: &mut C) -> Stand
-        requires { Told (C.ports cx.old) (C.sight cx.old self.old.link) self.old sequence half outcome }
-        ensures fits { Fits (C.ports cx.new) (C.sight cx.new self.old.link) self.new result.phase }
+        requires { Told (C.ports cx.old) (C.sight cx.old self.old.link) (desk_of self.old) sequence half outcome }
+        ensures fits { Fits (C.ports cx.new) (C.sight cx.new self.old.link) (desk_of self.new) result.phase }
         ensures link { self.new.link ≡ self.old.link }
         ensures answers { Answers result.phase result.next }
         ensures cause { (before : List Event) → Adds before (C.events cx.old) (store_came outcome) → Caused before (C.events cx.new) self.new.index result.phase }
@@ -112,8 +113,8 @@ impl Desk {
 
     // The reply at hand is what this says.
     fn draft<C: Calls>(&mut self, answer: StoreAnswer, sequence: u64, body: Option<AppSga>, cx: &mut C) -> Stand
-        requires { Fits (C.ports cx.old) (C.sight cx.old self.old.link) (with_reply self.old (record { answer = answer; sequence = sequence; body = body })) (replying (record { answer = answer; sequence = sequence; body = body })) }
-        ensures fits { Fits (C.ports cx.new) (C.sight cx.new self.old.link) self.new result.phase }
+        requires { Fits (C.ports cx.old) (C.sight cx.old self.old.link) (with_reply (desk_of self.old) (record { answer = answer; sequence = sequence; body = body })) (replying (record { answer = answer; sequence = sequence; body = body })) }
+        ensures fits { Fits (C.ports cx.new) (C.sight cx.new self.old.link) (desk_of self.new) result.phase }
         ensures link { self.new.link ≡ self.old.link }
         ensures answers { Answers result.phase result.next }
         ensures cause { Caused (C.events cx.old) (C.events cx.new) self.new.index result.phase }
@@ -127,8 +128,8 @@ impl Desk {
 
     // Claims a buffer for the head of the reply at hand, and sends it. Where none can be had, the reply stays at hand.
     pub(crate) fn reply<C: Calls>(&mut self, draft: Draft, cx: &mut C) -> Stand
-        requires { Fits (C.ports cx.old) (C.sight cx.old self.old.link) self.old (replying draft) }
-        ensures fits { Fits (C.ports cx.new) (C.sight cx.new self.old.link) self.new result.phase }
+        requires { Fits (C.ports cx.old) (C.sight cx.old self.old.link) (desk_of self.old) (replying draft) }
+        ensures fits { Fits (C.ports cx.new) (C.sight cx.new self.old.link) (desk_of self.new) result.phase }
         ensures link { self.new.link ≡ self.old.link }
         ensures answers { Answers result.phase result.next }
         ensures cause { Caused (C.events cx.old) (C.events cx.new) self.new.index result.phase }

@@ -1,6 +1,7 @@
 //! The steps of a link that has a request at hand and asks the store.
 ghost use Rattle.std.specs.Prelude.{◌≡◌, ◌<◌, ◌≤◌, ◌+◌, ◌++◌, ◌∷◌, [], ℕ, List, ◌⊎◌, IfOk, IfErr, length};
 ghost use Rattle.demi_link.specs.Causes.{Answers, Caused};
+ghost use Rattle.demi_link.specs.Desks.{desk_of};
 ghost use Rattle.demi_link.specs.Events.{Adds, Event, RxCame, StoreCame, store_came};
 ghost use Rattle.demi_link.specs.Fitting.{Fits, IsHungry, Noted, Took, Told};
 ghost use Rattle.demi_link.specs.declared.phase.Phase.TheVariants.{Reading as reading, Popping as popping, Asking as asking, Holding as holding, Waiting as waiting, Replying as replying, Sending as sending, Pushing as pushing};
@@ -19,8 +20,8 @@ use demi_store::StoreOp;
 impl Desk {
     // Goes on with the request at hand. Where no buffer can be had for it, it stays at hand.
     pub(crate) fn prepare<C: Calls>(&mut self, kind: Kind, cx: &mut C) -> Stand
-        requires { Fits (C.ports cx.old) (C.sight cx.old self.old.link) self.old (asking kind) }
-        ensures fits { Fits (C.ports cx.new) (C.sight cx.new self.old.link) self.new result.phase }
+        requires { Fits (C.ports cx.old) (C.sight cx.old self.old.link) (desk_of self.old) (asking kind) }
+        ensures fits { Fits (C.ports cx.new) (C.sight cx.new self.old.link) (desk_of self.new) result.phase }
         ensures link { self.new.link ≡ self.old.link }
         ensures answers { Answers result.phase result.next }
         ensures cause { Caused (C.events cx.old) (C.events cx.new) self.new.index result.phase }
@@ -37,8 +38,8 @@ impl Desk {
 
     // Lends the value of a put, if it has bytes, and asks.
     fn put<C: Calls>(&mut self, cx: &mut C) -> Stand
-        requires { Fits (C.ports cx.old) (C.sight cx.old self.old.link) self.old (asking put_kind) }
-        ensures fits { Fits (C.ports cx.new) (C.sight cx.new self.old.link) self.new result.phase }
+        requires { Fits (C.ports cx.old) (C.sight cx.old self.old.link) (desk_of self.old) (asking put_kind) }
+        ensures fits { Fits (C.ports cx.new) (C.sight cx.new self.old.link) (desk_of self.new) result.phase }
         ensures link { self.new.link ≡ self.old.link }
         ensures answers { Answers result.phase result.next }
         ensures cause { Caused (C.events cx.old) (C.events cx.new) self.new.index result.phase }
@@ -64,8 +65,8 @@ impl Desk {
 
     // Claims a room for the value of a get, and asks.
     fn get<C: Calls>(&mut self, cx: &mut C) -> Stand
-        requires { Fits (C.ports cx.old) (C.sight cx.old self.old.link) self.old (asking get_kind) }
-        ensures fits { Fits (C.ports cx.new) (C.sight cx.new self.old.link) self.new result.phase }
+        requires { Fits (C.ports cx.old) (C.sight cx.old self.old.link) (desk_of self.old) (asking get_kind) }
+        ensures fits { Fits (C.ports cx.new) (C.sight cx.new self.old.link) (desk_of self.new) result.phase }
         ensures link { self.new.link ≡ self.old.link }
         ensures answers { Answers result.phase result.next }
         ensures cause { Caused (C.events cx.old) (C.events cx.new) self.new.index result.phase }
@@ -81,8 +82,8 @@ impl Desk {
 
     // Asks the store. Where that is refused, no number was drawn, and the operation stays at hand.
     pub(crate) fn ask<C: Calls>(&mut self, half: Option<LentSga>, op: StoreOp, cx: &mut C) -> Stand
-        requires { Fits (C.ports cx.old) (C.sight cx.old self.old.link) self.old (holding half op) }
-        ensures fits { Fits (C.ports cx.new) (C.sight cx.new self.old.link) self.new result.phase }
+        requires { Fits (C.ports cx.old) (C.sight cx.old self.old.link) (desk_of self.old) (holding half op) }
+        ensures fits { Fits (C.ports cx.new) (C.sight cx.new self.old.link) (desk_of self.new) result.phase }
         ensures link { self.new.link ≡ self.old.link }
         ensures answers { Answers result.phase result.next }
         ensures cause { Caused (C.events cx.old) (C.events cx.new) self.new.index result.phase }

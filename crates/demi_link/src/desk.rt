@@ -7,7 +7,6 @@ use demi_core::NoMemory;
 use demi_device::Mark;
 use demi_frame::Decoder;
 use std::alloc::Global;
-use std::marker::Model;
 
 /// A link but for where it stands.
 #[derive(Drop)]
@@ -18,14 +17,6 @@ pub(crate) struct Desk {
     pub(crate) index: u32,
     pub(crate) decoder: Decoder,
     pub(crate) talk: Mark<Talk>,
-}
-
-impl Model for Desk {
-    ghost use Rattle.demi_link.specs.Talks.{DeskValue};
-
-    ghost Value = { DeskValue };
-
-    ghost view = { λ d. record { link = d.link; worker = d.worker; index = d.index; decoder = d.decoder; talk = d.talk.value } };
 }
 
 fn nothing_said(worker: u8) -> Mark<Talk>

@@ -1,6 +1,7 @@
 //! The steps of a link that answers an end frame or a refused end, for which the store is not asked.
 ghost use Rattle.std.specs.Prelude.{◌≡◌, ◌<◌, ◌≤◌, ◌+◌, ◌++◌, ◌∷◌, [], ℕ, List, ◌⊎◌, IfOk, IfErr, length};
 ghost use Rattle.demi_link.specs.Causes.{Answers, Caused};
+ghost use Rattle.demi_link.specs.Desks.{desk_of};
 ghost use Rattle.demi_link.specs.Events.{Adds, Event, RxCame, StoreCame, store_came};
 ghost use Rattle.demi_link.specs.Fitting.{Fits, IsHungry, Noted, Took, Told};
 ghost use Rattle.demi_link.specs.declared.phase.Phase.TheVariants.{Reading as reading, Popping as popping, Asking as asking, Holding as holding, Waiting as waiting, Replying as replying, Sending as sending, Pushing as pushing};
@@ -21,8 +22,8 @@ use demi_sga::AppSga;
 impl Desk {
     // Claims a buffer for a bye. Where none can be had, no number is drawn.
     pub(crate) fn bye<C: Calls>(&mut self, cx: &mut C) -> Stand
-        requires { Fits (C.ports cx.old) (C.sight cx.old self.old.link) self.old (asking bye_kind) }
-        ensures fits { Fits (C.ports cx.new) (C.sight cx.new self.old.link) self.new result.phase }
+        requires { Fits (C.ports cx.old) (C.sight cx.old self.old.link) (desk_of self.old) (asking bye_kind) }
+        ensures fits { Fits (C.ports cx.new) (C.sight cx.new self.old.link) (desk_of self.new) result.phase }
         ensures link { self.new.link ≡ self.old.link }
         ensures answers { Answers result.phase result.next }
         ensures cause { Caused (C.events cx.old) (C.events cx.new) self.new.index result.phase }
@@ -37,8 +38,8 @@ impl Desk {
 
     // Draws the number of a bye, and sends it.
     fn say_bye<C: Calls>(&mut self, head: AppBuf, cx: &mut C) -> Stand
-        requires { HasClaimed (C.ports cx.old) (C.sight cx.old self.old.link) self.old (asking bye_kind) 1 × IsSmall (C.sight cx.old self.old.link).heap head }
-        ensures fits { Fits (C.ports cx.new) (C.sight cx.new self.old.link) self.new result.phase }
+        requires { HasClaimed (C.ports cx.old) (C.sight cx.old self.old.link) (desk_of self.old) (asking bye_kind) 1 × IsSmall (C.sight cx.old self.old.link).heap head }
+        ensures fits { Fits (C.ports cx.new) (C.sight cx.new self.old.link) (desk_of self.new) result.phase }
         ensures link { self.new.link ≡ self.old.link }
         ensures answers { Answers result.phase result.next }
         ensures cause { Caused (C.events cx.old) (C.events cx.new) self.new.index result.phase }
@@ -57,8 +58,8 @@ impl Desk {
 
     // Claims two buffers for the reply to a refused end. Where one of them can't be had, none is kept, and no number is drawn.
     pub(crate) fn refuse<C: Calls>(&mut self, code: u8, cx: &mut C) -> Stand
-        requires { Fits (C.ports cx.old) (C.sight cx.old self.old.link) self.old (asking (refused_kind code)) }
-        ensures fits { Fits (C.ports cx.new) (C.sight cx.new self.old.link) self.new result.phase }
+        requires { Fits (C.ports cx.old) (C.sight cx.old self.old.link) (desk_of self.old) (asking (refused_kind code)) }
+        ensures fits { Fits (C.ports cx.new) (C.sight cx.new self.old.link) (desk_of self.new) result.phase }
         ensures link { self.new.link ≡ self.old.link }
         ensures answers { Answers result.phase result.next }
         ensures cause { Caused (C.events cx.old) (C.events cx.new) self.new.index result.phase }
@@ -73,8 +74,8 @@ impl Desk {
 
     // Claims the second buffer.
     fn refuse_with<C: Calls>(&mut self, code: u8, head: AppBuf, cx: &mut C) -> Stand
-        requires { HasClaimed (C.ports cx.old) (C.sight cx.old self.old.link) self.old (asking (refused_kind code)) 1 × IsSmall (C.sight cx.old self.old.link).heap head }
-        ensures fits { Fits (C.ports cx.new) (C.sight cx.new self.old.link) self.new result.phase }
+        requires { HasClaimed (C.ports cx.old) (C.sight cx.old self.old.link) (desk_of self.old) (asking (refused_kind code)) 1 × IsSmall (C.sight cx.old self.old.link).heap head }
+        ensures fits { Fits (C.ports cx.new) (C.sight cx.new self.old.link) (desk_of self.new) result.phase }
         ensures link { self.new.link ≡ self.old.link }
         ensures answers { Answers result.phase result.next }
         ensures cause { Caused (C.events cx.old) (C.events cx.new) self.new.index result.phase }
@@ -92,8 +93,8 @@ impl Desk {
 
     // Draws the number of the reply to a refused end, and sends it.
     fn say_refused<C: Calls>(&mut self, code: u8, head: AppBuf, tail: AppBuf, cx: &mut C) -> Stand
-        requires { HasClaimed (C.ports cx.old) (C.sight cx.old self.old.link) self.old (asking (refused_kind code)) 2 × IsSmall (C.sight cx.old self.old.link).heap head × IsSmall (C.sight cx.old self.old.link).heap tail }
-        ensures fits { Fits (C.ports cx.new) (C.sight cx.new self.old.link) self.new result.phase }
+        requires { HasClaimed (C.ports cx.old) (C.sight cx.old self.old.link) (desk_of self.old) (asking (refused_kind code)) 2 × IsSmall (C.sight cx.old self.old.link).heap head × IsSmall (C.sight cx.old self.old.link).heap tail }
+        ensures fits { Fits (C.ports cx.new) (C.sight cx.new self.old.link) (desk_of self.new) result.phase }
         ensures link { self.new.link ≡ self.old.link }
         ensures answers { Answers result.phase result.next }
         ensures cause { Caused (C.events cx.old) (C.events cx.new) self.new.index result.phase }

@@ -1,6 +1,7 @@
 //! One poll of a link.
 ghost use Rattle.std.specs.Prelude.{◌≡◌, ◌<◌, ◌≤◌, ◌+◌, ◌++◌, ◌∷◌, [], ℕ, List, ◌⊎◌, IfOk, IfErr, length};
 ghost use Rattle.demi_link.specs.Causes.{Answers, Caused};
+ghost use Rattle.demi_link.specs.Desks.{desk_of};
 ghost use Rattle.demi_link.specs.Events.{Adds, Event, RxCame, StoreCame, store_came};
 ghost use Rattle.demi_link.specs.Fitting.{Fits, IsHungry, Noted, Took, Told};
 ghost use Rattle.demi_link.specs.declared.phase.Phase.TheVariants.{Reading as reading, Popping as popping, Asking as asking, Holding as holding, Waiting as waiting, Replying as replying, Sending as sending, Pushing as pushing};
@@ -14,8 +15,8 @@ use crate::stand::{Stand, ends};
 impl Desk {
     // Goes on from where it stands. A link that is over is still so.
     pub(crate) fn go<C: Calls>(&mut self, phase: Phase, cx: &mut C) -> Stand
-        requires { Fits (C.ports cx.old) (C.sight cx.old self.old.link) self.old phase }
-        ensures fits { Fits (C.ports cx.new) (C.sight cx.new self.old.link) self.new result.phase }
+        requires { Fits (C.ports cx.old) (C.sight cx.old self.old.link) (desk_of self.old) phase }
+        ensures fits { Fits (C.ports cx.new) (C.sight cx.new self.old.link) (desk_of self.new) result.phase }
         ensures link { self.new.link ≡ self.old.link }
         ensures answers { Answers result.phase result.next }
         ensures cause { (HasEnded phase × (result.phase ≡ phase)) ⊎ Caused (C.events cx.old) (C.events cx.new) self.new.index result.phase }

@@ -1,6 +1,7 @@
 //! The steps of a link that reads.
 ghost use Rattle.std.specs.Prelude.{◌≡◌, ◌<◌, ◌≤◌, ◌+◌, ◌++◌, ◌∷◌, [], ℕ, List, ◌⊎◌, IfOk, IfErr, length};
 ghost use Rattle.demi_link.specs.Causes.{Answers, Caused};
+ghost use Rattle.demi_link.specs.Desks.{desk_of};
 ghost use Rattle.demi_link.specs.Events.{Adds, Event, RxCame, StoreCame, store_came};
 ghost use Rattle.demi_link.specs.Fitting.{Fits, IsHungry, Noted, Took, Told};
 ghost use Rattle.demi_link.specs.declared.phase.Phase.TheVariants.{Reading as reading, Popping as popping, Asking as asking, Holding as holding, Waiting as waiting, Replying as replying, Sending as sending, Pushing as pushing};
@@ -22,8 +23,8 @@ impl Desk {
     // Asks the decoder, and goes on with the request that it hands out. A link that has had as many requests as can be
     // numbered is lost.
     pub(crate) fn read<C: Calls>(&mut self, cx: &mut C) -> Stand
-        requires { Fits (C.ports cx.old) (C.sight cx.old self.old.link) self.old reading }
-        ensures fits { Fits (C.ports cx.new) (C.sight cx.new self.old.link) self.new result.phase }
+        requires { Fits (C.ports cx.old) (C.sight cx.old self.old.link) (desk_of self.old) reading }
+        ensures fits { Fits (C.ports cx.new) (C.sight cx.new self.old.link) (desk_of self.new) result.phase }
         ensures link { self.new.link ≡ self.old.link }
         ensures answers { Answers result.phase result.next }
         ensures cause { Caused (C.events cx.old) (C.events cx.new) self.new.index result.phase }
@@ -56,8 +57,8 @@ impl Desk {
 
     // Pops from the receiving queue. Where that is refused, it asks the decoder again in the next round.
     fn pop<C: Calls>(&mut self, cx: &mut C) -> Stand
-        requires { IsHungry (C.ports cx.old) (C.sight cx.old self.old.link) self.old }
-        ensures fits { Fits (C.ports cx.new) (C.sight cx.new self.old.link) self.new result.phase }
+        requires { IsHungry (C.ports cx.old) (C.sight cx.old self.old.link) (desk_of self.old) }
+        ensures fits { Fits (C.ports cx.new) (C.sight cx.new self.old.link) (desk_of self.new) result.phase }
         ensures link { self.new.link ≡ self.old.link }
         ensures answers { Answers result.phase result.next }
         ensures cause { Caused (C.events cx.old) (C.events cx.new) self.new.index result.phase }
@@ -72,8 +73,8 @@ impl Desk {
 
     // Takes what the pop came to, if it is there.
     pub(crate) fn fed<C: Calls>(&mut self, token: QToken, cx: &mut C) -> Stand
-        requires { Fits (C.ports cx.old) (C.sight cx.old self.old.link) self.old (popping token) }
-        ensures fits { Fits (C.ports cx.new) (C.sight cx.new self.old.link) self.new result.phase }
+        requires { Fits (C.ports cx.old) (C.sight cx.old self.old.link) (desk_of self.old) (popping token) }
+        ensures fits { Fits (C.ports cx.new) (C.sight cx.new self.old.link) (desk_of self.new) result.phase }
         ensures link { self.new.link ≡ self.old.link }
         ensures answers { Answers result.phase result.next }
         ensures cause { Caused (C.events cx.old) (C.events cx.new) self.new.index result.phase }
@@ -90,8 +91,8 @@ impl Desk {
 
     // Goes on with what a pop came to.
     fn took<C: Calls>(&mut self, place: Place, outcome: RxOut, cx: &mut C) -> Stand
-        requires { Took (C.ports cx.old) (C.sight cx.old self.old.link) self.old place.0 outcome }
-        ensures fits { Fits (C.ports cx.new) (C.sight cx.new self.old.link) self.new result.phase }
+        requires { Took (C.ports cx.old) (C.sight cx.old self.old.link) (desk_of self.old) place.0 outcome }
+        ensures fits { Fits (C.ports cx.new) (C.sight cx.new self.old.link) (desk_of self.new) result.phase }
         ensures link { self.new.link ≡ self.old.link }
         ensures answers { Answers result.phase result.next }
         ensures cause { (before : List Event) → Adds before (C.events cx.old) (RxCame outcome) → Caused before (C.events cx.new) self.new.index result.phase }
@@ -113,8 +114,8 @@ impl Desk {
 
     // Feeds a piece to the decoder, which takes all of it, frees it and reads on.
     fn feed<C: Calls>(&mut self, buf: AppBuf, cx: &mut C) -> Stand
-        requires { Noted (C.ports cx.old) (C.sight cx.old self.old.link) self.old (piece buf) }
-        ensures fits { Fits (C.ports cx.new) (C.sight cx.new self.old.link) self.new result.phase }
+        requires { Noted (C.ports cx.old) (C.sight cx.old self.old.link) (desk_of self.old) (piece buf) }
+        ensures fits { Fits (C.ports cx.new) (C.sight cx.new self.old.link) (desk_of self.new) result.phase }
         ensures link { self.new.link ≡ self.old.link }
         ensures answers { Answers result.phase result.next }
         ensures cause { Caused (C.events cx.old) (C.events cx.new) self.new.index result.phase }
@@ -128,8 +129,8 @@ impl Desk {
 
     // The input has ended: it is over, or one more request is refused.
     fn close_input<C: Calls>(&mut self, cx: &mut C) -> Stand
-        requires { Noted (C.ports cx.old) (C.sight cx.old self.old.link) self.old at_end }
-        ensures fits { Fits (C.ports cx.new) (C.sight cx.new self.old.link) self.new result.phase }
+        requires { Noted (C.ports cx.old) (C.sight cx.old self.old.link) (desk_of self.old) at_end }
+        ensures fits { Fits (C.ports cx.new) (C.sight cx.new self.old.link) (desk_of self.new) result.phase }
         ensures link { self.new.link ≡ self.old.link }
         ensures answers { Answers result.phase result.next }
         ensures cause { (before : List Event) → Adds before (C.events cx.old) (RxCame at_end) → Caused before (C.events cx.new) self.new.index result.phase }

@@ -1,6 +1,7 @@
 //! The steps of a link that sends a reply.
 ghost use Rattle.std.specs.Prelude.{◌≡◌, ◌<◌, ◌≤◌, ◌+◌, ◌++◌, ◌∷◌, [], ℕ, List, ◌⊎◌, IfOk, IfErr, length};
 ghost use Rattle.demi_link.specs.Causes.{Answers, Caused};
+ghost use Rattle.demi_link.specs.Desks.{desk_of};
 ghost use Rattle.demi_link.specs.Events.{Adds, Event, RxCame, StoreCame, store_came};
 ghost use Rattle.demi_link.specs.Fitting.{Fits, IsHungry, Noted, Took, Told};
 ghost use Rattle.demi_link.specs.declared.phase.Phase.TheVariants.{Reading as reading, Popping as popping, Asking as asking, Holding as holding, Waiting as waiting, Replying as replying, Sending as sending, Pushing as pushing};
@@ -20,8 +21,8 @@ use demi_streamq::TxOut;
 impl Desk {
     // Pushes the reply at hand, and frees the lent halves at once. Where that is refused, it stays at hand.
     pub(crate) fn push<C: Calls>(&mut self, sga: AppSga, behind: Option<Cause>, cx: &mut C) -> Stand
-        requires { Fits (C.ports cx.old) (C.sight cx.old self.old.link) self.old (sending sga behind) }
-        ensures fits { Fits (C.ports cx.new) (C.sight cx.new self.old.link) self.new result.phase }
+        requires { Fits (C.ports cx.old) (C.sight cx.old self.old.link) (desk_of self.old) (sending sga behind) }
+        ensures fits { Fits (C.ports cx.new) (C.sight cx.new self.old.link) (desk_of self.new) result.phase }
         ensures link { self.new.link ≡ self.old.link }
         ensures answers { Answers result.phase result.next }
         ensures cause { Caused (C.events cx.old) (C.events cx.new) self.new.index result.phase }
@@ -40,8 +41,8 @@ impl Desk {
 
     // Goes on once the reply was written, or is over.
     pub(crate) fn sent<C: Calls>(&mut self, token: QToken, behind: Option<Cause>, cx: &mut C) -> Stand
-        requires { Fits (C.ports cx.old) (C.sight cx.old self.old.link) self.old (pushing token behind) }
-        ensures fits { Fits (C.ports cx.new) (C.sight cx.new self.old.link) self.new result.phase }
+        requires { Fits (C.ports cx.old) (C.sight cx.old self.old.link) (desk_of self.old) (pushing token behind) }
+        ensures fits { Fits (C.ports cx.new) (C.sight cx.new self.old.link) (desk_of self.new) result.phase }
         ensures link { self.new.link ≡ self.old.link }
         ensures answers { Answers result.phase result.next }
         ensures cause { Caused (C.events cx.old) (C.events cx.new) self.new.index result.phase }
@@ -58,8 +59,8 @@ impl Desk {
 
     // Goes on with what a push came to.
     fn came<C: Calls>(&mut self, place: Place, outcome: TxOut, behind: Option<Cause>, cx: &mut C) -> Stand
-        requires { Wrote (C.ports cx.old) (C.sight cx.old self.old.link) self.old place.0 behind outcome }
-        ensures fits { Fits (C.ports cx.new) (C.sight cx.new self.old.link) self.new result.phase }
+        requires { Wrote (C.ports cx.old) (C.sight cx.old self.old.link) (desk_of self.old) place.0 behind outcome }
+        ensures fits { Fits (C.ports cx.new) (C.sight cx.new self.old.link) (desk_of self.new) result.phase }
         ensures link { self.new.link ≡ self.old.link }
         ensures answers { Answers result.phase result.next }
         ensures cause { (before : List Event) → Adds before (C.events cx.old) (TxCame outcome) → Caused before (C.events cx.new) self.new.index result.phase }
