@@ -61,7 +61,7 @@ step_fault limit place s a k h = go s.stop
     go None = subst (λ (o : Option ℕ). IsFirstFault place a (said_open limit place s a k o)) (sym h) (open_ a k)
 
 -- after a fault nothing is added, and the fault stays
-broken_step : (limit place g : ℕ) (s : Standing) (a : Ask) (k : Option StoreTold) → s.fault ≡ Some g → (o : Option ℕ) → ((said_by limit place s a k o).1.fault ≡ Some g) × (added_by a (said_by limit place s a k o).0 ≡ [])
+pub broken_step : (limit place g : ℕ) (s : Standing) (a : Ask) (k : Option StoreTold) → s.fault ≡ Some g → (o : Option ℕ) → ((said_by limit place s a k o).1.fault ≡ Some g) × (added_by a (said_by limit place s a k o).0 ≡ [])
 broken_step limit place g s a k h (Some at) = go a
   where
     go : (a : Ask) → ((said_by limit place s a k (Some at)).1.fault ≡ Some g) × (added_by a (said_by limit place s a k (Some at)).0 ≡ [])
@@ -75,7 +75,7 @@ broken_step limit place g s a k h None = subst (λ (o : Option ℕ). ((said_open
     go (Puts r) = (h, refl)
     go (Gets key) = (h, refl)
 
-broken_rest : (limit : ℕ) (struck : ℕ → Option StoreTold) (place g : ℕ) (s : Standing) (asks : List Ask) → s.fault ≡ Some g → ((standing_from limit struck place s asks).fault ≡ Some g) × (stored_from limit struck place s asks ≡ [])
+pub broken_rest : (limit : ℕ) (struck : ℕ → Option StoreTold) (place g : ℕ) (s : Standing) (asks : List Ask) → s.fault ≡ Some g → ((standing_from limit struck place s asks).fault ≡ Some g) × (stored_from limit struck place s asks ≡ [])
 broken_rest limit struck place g s [] h = (h, refl)
 broken_rest limit struck place g s (a ∷ asks) h =
     let one = broken_step limit place g s a (struck place) h s.stop in

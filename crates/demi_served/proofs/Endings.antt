@@ -26,7 +26,7 @@ content_same kind key value content None = go (nat_lt (length content) (key + va
     go true = inr (Refused 5, refl, refl)
     go false = inl refl
 
-front_same : (bytes : List ℕ) → SameFront (front false bytes) (front true bytes)
+pub front_same : (bytes : List ℕ) → SameFront (front false bytes) (front true bytes)
 unfolding front
 front_same bytes = go (length bytes == 0) (nat_lt (length bytes) 6)
   where

@@ -1,5 +1,5 @@
 -- A session whose ends are known was served.
-use Rattle.std.proofs.Common.{List, [], ◌∷◌, inl}
+use Rattle.std.proofs.Common.{ℕ, List, [], ◌∷◌, inl}
 use Rattle.std.specs.List.{AllZip}
 use Rattle.demi_port_core.specs.declared.trail.Trail.{Trail}
 use Rattle.demi_store.specs.Laws.{StoreBasis}
@@ -10,7 +10,11 @@ use Rattle.demi_served.specs.Served.{TornTalk, WholeTalk, Served, Whole}
 use Rattle.demi_served.specs.Accounts.{Entry}
 use Rattle.demi_served.specs.Keeps.{Worker, Link}
 use Rattle.demi_served.specs.Ends.{StoreEnds}
+use Rattle.demi_served.specs.Links.{LinkPorts}
+use Rattle.demi_served.specs.Sharing.{MemEntry}
+use Rattle.demi_served.specs.Sessions.{SessionAccounted}
 use Rattle.demi_served.proofs.Closes.{accounted}
+use Rattle.demi_served.proofs.LinkEnds.{torn_all}
 use Rattle.demi_served.proofs.Serves.{consistent, recorded}
 
 pub served : (b : StoreBasis) (end : Trail StoreAsk StoreTold) (history : List Entry) (workers : List Worker) (links : List Link) (run : Run) (talks : List Talk) → StoreEnds b end history workers links run talks → AllZip TornTalk run.links talks → Served run
@@ -26,3 +30,11 @@ untorn (l ∷ links) (t ∷ talks) h = (record { asks = h.0.asks; fits = h.0.fit
 
 pub whole_served : (run : Run) → Whole run → Served run
 whole_served run w = record { talks = w.talks; read = untorn run.links w.talks w.read; consistent = w.consistent; recorded = w.recorded }
+
+pub accounted_served : (b : StoreBasis) (history : List Entry) (trail : List (ℕ × StoreTold)) (ports : List LinkPorts) (workers : ℕ) (memory : List MemEntry) (run : Run) (talks : List Talk) → SessionAccounted b history trail ports workers memory run talks → Served run
+accounted_served b history trail ports workers memory run talks s = record {
+  talks = talks;
+  read = torn_all run.links ports talks s.links;
+  consistent = consistent b history trail run talks s.store;
+  recorded = recorded b history trail run talks s.store;
+}

@@ -10,3 +10,6 @@ pub mod Alone
 pub mod Reading
 pub mod Writing
 pub mod Links
+pub mod Sharing
+pub mod Sessions
+pub mod LogEnds

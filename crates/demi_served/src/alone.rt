@@ -1,13 +1,16 @@
 // One link and one worker.
-ghost use Rattle.std.specs.Prelude.{◌≡◌, ◌⊎◌, ◌≤◌, ◌+◌, ℕ, List, [], ◌∷◌, take, drop, length, None, Some};
+ghost use Rattle.std.specs.Prelude.{◌≡◌, ◌⊎◌, ◌≤◌, ◌+◌, ℕ, List, [], ◌∷◌, take, drop, flat_map, length, None, Some};
+ghost use Rattle.demi_port_core.specs.Trails.{StartsWith};
 ghost use Rattle.demi_port_core.specs.declared.trail.Trail.{Trail};
 ghost use Rattle.demi_spec.specs.Input.{Asked};
+ghost use Rattle.demi_spec.specs.Reply.{Reply, spelling};
 ghost use Rattle.demi_spec.specs.Store.{serial};
 ghost use Rattle.demi_store.specs.Laws.{StoreBasis};
 ghost use Rattle.demi_store.specs.declared.ask.StoreAsk.{StoreAsk};
 ghost use Rattle.demi_store.specs.declared.op.StoreOp.{StoreOp};
 ghost use Rattle.demi_store.specs.declared.told.StoreTold.{StoreTold};
 ghost use Rattle.demi_served.specs.Talks.{Run, Talk};
+ghost use Rattle.demi_served.specs.Served.{Torn};
 ghost use Rattle.demi_served.specs.Asking.{asks_for, ask_of};
 ghost use Rattle.demi_served.specs.Accounts.{Entry};
 ghost use Rattle.demi_served.specs.Keeps.{Worker, Link};
@@ -29,6 +32,8 @@ pub fn an_only_link_is_served_in_order()
         → t.replies ≡ take (length t.replies) (serial b.records b.limit t.asks).replies }
     ensures all { (b : StoreBasis) (end : Trail StoreAsk StoreTold) (history : List Entry) (w : Worker) (k : Link) (run : Run) (t : Talk) → StoreEnds b end history (w ∷ []) (k ∷ []) run (t ∷ []) → AskedAll w
         → length t.replies ≡ length t.asks → t.replies ≡ (serial b.records b.limit t.asks).replies }
+    // what was written begins what the store on one thread writes
+    ensures output { (written : List ℕ) (replies full : List Reply) → Torn written replies → replies ≡ take (length replies) full → StartsWith (flat_map spelling full) written }
     ensures records { (b : StoreBasis) (end : Trail StoreAsk StoreTold) (history : List Entry) (w : Worker) (k : Link) (run : Run) (t : Talk) → (ends : StoreEnds b end history (w ∷ []) (k ∷ []) run (t ∷ [])) → AskedAll w
         → ends.logged.extra ≡ [] → length t.replies ≡ length k.drawn → drop run.old run.records ≡ (serial b.records b.limit (take (length t.replies) t.asks)).records }
     ensures more { (b : StoreBasis) (end : Trail StoreAsk StoreTold) (history : List Entry) (w : Worker) (k : Link) (run : Run) (t : Talk) → StoreEnds b end history (w ∷ []) (k ∷ []) run (t ∷ []) → AskedAll w

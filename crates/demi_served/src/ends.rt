@@ -10,6 +10,9 @@ ghost use Rattle.demi_served.specs.Served.{Consistent, Recorded, TornTalk, Serve
 ghost use Rattle.demi_served.specs.Accounts.{Entry, Accounted};
 ghost use Rattle.demi_served.specs.Keeps.{Worker, Link};
 ghost use Rattle.demi_served.specs.Ends.{StoreEnds};
+ghost use Rattle.demi_served.specs.Links.{LinkPorts};
+ghost use Rattle.demi_served.specs.Sharing.{MemEntry};
+ghost use Rattle.demi_served.specs.Sessions.{SessionAccounted};
 
 /// Where the store's port is closed, what each worker and each link kept alone accounts for all of the session.
 pub fn a_closed_session_is_accounted()
@@ -37,4 +40,9 @@ pub fn a_session_without_fault_is_whole()
 /// A session that was whole served.
 pub fn a_whole_session_served()
     ensures served { (run : Run) → Whole run → Served run }
+{}
+
+/// A session all of which is accounted for served.
+pub fn an_accounted_session_served()
+    ensures served { (b : StoreBasis) (history : List Entry) (trail : List (ℕ × StoreTold)) (ports : List LinkPorts) (workers : ℕ) (memory : List MemEntry) (run : Run) (talks : List Talk) → SessionAccounted b history trail ports workers memory run talks → Served run }
 {}

@@ -15,15 +15,20 @@ mod alone;
 mod ends;
 mod keeps;
 mod links;
+mod logs;
 mod ports;
+mod sharing;
 
 pub use alone::an_only_link_is_served_in_order;
 pub use ends::{
     a_closed_session_is_accounted, a_closed_session_is_served, a_session_without_fault_is_whole,
-    a_whole_session_served, an_accounted_session_is_consistent,
+    a_whole_session_served, an_accounted_session_is_consistent, an_accounted_session_served,
 };
 pub use links::{
     a_link_reads_and_writes, a_receiving_port_ends, a_sending_port_ends, a_text_that_ended_asks_on,
+    what_a_decoder_handed_out_is_asked,
 };
+pub use logs::a_log_ends_as_its_history;
 pub use ports::{a_closed_port_has_its_workers, an_engine_was_served_all, an_outcome_is_replied};
 pub use keeps::{a_link_keeps, a_worker_keeps, other_links_are_beside, what_was_said_stays};
+pub use sharing::each_link_has_one_worker;

@@ -1,12 +1,16 @@
 // What a link reads and writes, by the laws of its two ports.
-ghost use Rattle.std.specs.Prelude.{◌≡◌, ◌≢◌, ℕ, List, [], Option, true, false, flat_map, length};
+ghost use Rattle.std.specs.Prelude.{◌≡◌, ◌≢◌, ◌++◌, ◌∷◌, ℕ, Bool, List, [], Some, true, false, flat_map, map, length};
 ghost use Rattle.std.specs.Io.KnownBytes.{append_known, prepend_known};
 ghost use Rattle.demi_port.specs.Seen.{DeviceValue};
 ghost use Rattle.demi_port_core.specs.Trails.{StartsWith};
 ghost use Rattle.demi_device.specs.Serving.{trail};
 ghost use Rattle.demi_device.specs.Turning.{Agrees};
 ghost use Rattle.demi_heap.specs.Seen.{HeapId};
-ghost use Rattle.demi_spec.specs.Input.{Open, parse, asked};
+ghost use Rattle.demi_frame.specs.Decoding.{Decoding};
+ghost use Rattle.demi_frame.specs.Reading.{HasRead};
+ghost use Rattle.demi_frame.specs.declared.decoder.Step.TheVariants as step;
+ghost use Rattle.demi_spec.specs.Request.{Request};
+ghost use Rattle.demi_spec.specs.Input.{Request_of, Refused_end, Ending, Open, Parses, parse, asked, asked_of};
 ghost use Rattle.demi_spec.specs.Reply.{Reply, spelling};
 ghost use Rattle.demi_streamq.specs.Receiving as rx;
 ghost use Rattle.demi_streamq.specs.Receiving.{RxAdmits, IsFrom};
@@ -52,6 +56,15 @@ pub fn a_link_reads_and_writes()
     ensures whole { (h : List TxOp) (f : List (ℕ × TxOut)) (replies : List Reply) → TxEnd h f → PushesEach h replies → WroteAll h (trail tx.told f) → all_written h f ≡ flat_map spelling replies }
     ensures talk { (l : LinkRun) (e : LinkPorts) (t : Talk) → LinkEnded l e t → TornTalk l t }
     ensures whole_talk { (l : LinkRun) (e : LinkPorts) (t : Talk) → LinkEnded l e t → WroteAll e.pushes (trail tx.told e.wrote) → length t.replies ≡ length t.asks → WholeTalk l t }
+{}
+
+/// The requests that a decoder handed out are those that its text asks: all behind an end frame, all but the refusal
+/// where a frame was refused, and else its first ones.
+pub fn what_a_decoder_handed_out_is_asked()
+    ensures begins { (fed : List ℕ) (handed : List Request) (d : Decoding) (ended : Bool) → HasRead fed handed d → StartsWith (asked fed ended) (map Request_of handed) }
+    ensures at_end_frame { (fed : List ℕ) (handed : List Request) (d : Decoding) (ended : Bool) → HasRead fed handed d → d.stop ≡ Some step.End → asked fed ended ≡ map Request_of handed }
+    ensures refused { (fed : List ℕ) (handed : List Request) (d : Decoding) (ended : Bool) (code : ℕ) → HasRead fed handed d → d.stop ≡ Some (step.Refused code) → asked fed ended ≡ map Request_of handed ++ Refused_end code ∷ [] }
+    ensures finished { (fed : List ℕ) (handed : List Request) (how : Ending) → Parses handed how true fed → asked fed true ≡ asked_of handed how }
 {}
 
 /// A text that is known to have ended asks what it asked before, and perhaps its refusal; where it does not end open it

@@ -1,5 +1,6 @@
 use Rattle.demi_served.proofs.AsksAll.{first_all, drawn_all, asked_all, handed_all, stopped_all, stopped_again, handed_again}
 use Rattle.demi_served.proofs.OnlyLink.{serial_replies, serial_all, serial_records, serial_more}
+use Rattle.demi_served.proofs.Outputs.{output}
 use Rattle.demi_served.proofs.alone.an_only_link_is_served_in_order.Goals as goal
 
 pub returns-clause-first : goal.returns-clause-first
@@ -34,3 +35,6 @@ returns-clause-records c = serial_records
 
 pub returns-clause-more : goal.returns-clause-more
 returns-clause-more c = serial_more
+
+pub returns-clause-output : goal.returns-clause-output
+returns-clause-output c = output
