@@ -1,6 +1,6 @@
 -- What fits stays so where nothing of it changes.
 use Rattle.std.specs.Prelude.{◌≡◌, ◌⊎◌, ℕ, ◌++◌, List, [], ◌∷◌, Option, Some, None, refl}
-use Rattle.std.proofs.Common.{sym, ◌∙◌, ap, subst, inl, inr, append_assoc}
+use Rattle.std.proofs.Common.{sym, ◌∙◌, ap, subst, inl, inr, append-nil, append_assoc}
 use Rattle.demi_port_core.specs.Trails.{StartsWith}
 use Rattle.demi_link.specs.Causes.{Answers, Caused, EndsFor, IsCause, LastIs}
 use Rattle.demi_link.specs.Events.{Adds, Event}
@@ -22,7 +22,7 @@ arrive p q s t d k ph ps same_ports same_sight same_talk same_phase f =
 
 -- The last event is the cause, if it is that of a later part.
 pub last_of : (P : Event → Type 0) (before after : List Event) (e : Event) → Adds before after e → P e → LastIs P before after
-last_of P before after e adds is = record { more = []; last = e; all = adds; is = is }
+last_of P before after e adds is = record { more = []; last = e; all = adds ∙ ap (λ (x : List Event). x ++ e ∷ []) (sym (append-nil before)); is = is }
 
 pub since : (P : Event → Type 0) (a b c : List Event) → StartsWith b a → LastIs P b c → LastIs P a c
 since P a b c s l = record {
