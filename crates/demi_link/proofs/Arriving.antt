@@ -69,3 +69,26 @@ behind_same (Some cause.WriteFault) d e dec req ref h = h
 behind_same (Some cause.LogFault) d e dec req ref h = h
 behind_same (Some cause.NoMemory) d e dec req ref h = h
 behind_same (Some cause.Lost) d e dec req ref h = h
+
+-- the last event is the cause
+pub caused_at : (a b : List Event) (index : ℕ) (phase : Phase) (e : Event) → Adds a b e → IsCause phase e → Caused a b index phase
+caused_at a b index Reading e adds is = last_of (IsCause Reading) a b e adds is
+caused_at a b index (Popping token) e adds is = last_of (IsCause (Popping token)) a b e adds is
+caused_at a b index (Asking kind) e adds is = last_of (IsCause (Asking kind)) a b e adds is
+caused_at a b index (Holding half asked) e adds is = last_of (IsCause (Holding half asked)) a b e adds is
+caused_at a b index (Waiting token sequence half) e adds is = last_of (IsCause (Waiting token sequence half)) a b e adds is
+caused_at a b index (Replying draft) e adds is = last_of (IsCause (Replying draft)) a b e adds is
+caused_at a b index (Sending sga behind) e adds is = last_of (IsCause (Sending sga behind)) a b e adds is
+caused_at a b index (Pushing token behind) e adds is = last_of (IsCause (Pushing token behind)) a b e adds is
+caused_at a b index (Over cause.Clean) e adds is = last_of (IsCause (Over cause.Clean)) a b e adds is
+caused_at a b index (Over cause.Bye) e adds is = last_of (IsCause (Over cause.Bye)) a b e adds is
+caused_at a b index (Over (cause.Refused code)) e adds is = last_of (IsCause (Over (cause.Refused code))) a b e adds is
+caused_at a b index (Over cause.ReadFault) e adds is = last_of (IsCause (Over cause.ReadFault)) a b e adds is
+caused_at a b index (Over cause.WriteFault) e adds is = last_of (IsCause (Over cause.WriteFault)) a b e adds is
+caused_at a b index (Over cause.LogFault) e adds is = last_of (IsCause (Over cause.LogFault)) a b e adds is
+caused_at a b index (Over cause.NoMemory) e adds is = last_of (IsCause (Over cause.NoMemory)) a b e adds is
+caused_at a b index (Over cause.Lost) e adds is = inl (last_of (EndsFor cause.Lost) a b e adds is)
+caused_at a b index Between e adds is = absurd is
+
+pub caused_by : (a b : List Event) (index : ℕ) (phase now : Phase) (e : Event) → now ≡ phase → Adds a b e → IsCause phase e → Caused a b index now
+caused_by a b index phase now e same adds is = subst (λ (p : Phase). Caused a b index p) (sym same) (caused_at a b index phase e adds is)

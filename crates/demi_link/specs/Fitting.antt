@@ -94,7 +94,7 @@ pub record Keeps (s : Sight) (d : DeskValue) : Type 0 where
   pub reads : Reads s.rx d.talk
   pub writes : Writes s.tx d.talk
   pub read : HasRead (all_bytes d.talk.outs) d.talk.handed d.decoder
-  pub refusal : IfSome d.talk.refused (λ code. Parses d.talk.handed (ends.Refused code) true (all_bytes d.talk.outs) × (1 ≤ code) × (code ≤ 5))
+  pub refusal : IfSome d.talk.refused (λ code. Parses d.talk.handed (ends.Refused code) true (all_bytes d.talk.outs))
 
 -- each pop came to its outcome
 abbrev pub AllTaken : Sight → DeskValue → Type 0
