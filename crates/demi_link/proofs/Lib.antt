@@ -1,4 +1,6 @@
 pub mod Arriving
+pub mod Asks
+pub mod Found
 pub mod Frames
 pub mod Lists
 pub mod Pushes

@@ -251,3 +251,37 @@ fed_next ports s z d place v decoder taken t freed all is reads =
         refusal = subst (λ (r : Option ℕ). IfSome r (λ code. Parses d.talk.handed (Refused code) true (all_bytes (d.talk.outs ++ (place, Piece v) ∷ [])))) (sym g.0.0) tt;
       };
     })
+
+-- the place at hand is no matter
+pub placed : (ports : ℕ) (s : Sight) (d : DeskValue) (place at : ℕ) (o : RxOut) → Took ports s d place o → Took ports s (record d { talk = record d.talk { place = at } }) place o
+placed ports s d place at o t = let f = t.fits in let g = f.agrees in let k = f.keeps in record {
+  before = t.before;
+  token = t.token;
+  fits = record {
+    agrees = (g.0, g.1, g.2, g.3, g.4, record { place = g.5.place; last = g.5.last; here = g.5.here }, g.6, g.7);
+    worker = f.worker;
+    keeps = record {
+      own = k.own;
+      kept = k.kept;
+      fits = k.fits;
+      number = k.number;
+      index = k.index;
+      reads = record { pops = k.reads.pops; rises = k.reads.rises; below = k.reads.below; taken = k.reads.taken };
+      writes = record { pushes = k.writes.pushes; texts = k.writes.texts; rises = k.writes.rises; below = k.writes.below; written = k.writes.written };
+      read = k.read;
+      refusal = k.refusal;
+    };
+  };
+  redeems = t.redeems;
+  is = t.is;
+}
+
+-- the link has noted the outcome
+pub noted : (ports : ℕ) (s : Sight) (d : DeskValue) (place : ℕ) (o : RxOut) (p z : TalkValue) → Took ports s d place o → p ≡ record d.talk { place = place } → z ≡ after_taken p p.place o → Noted ports s (record d { talk = z }) o
+noted ports s d place o p z t is now =
+    let first : TalkValue = record d.talk { place = place } in
+    record {
+      was = first;
+      now = now ∙ ap (λ (x : TalkValue). after_taken x x.place o) is;
+      took = placed ports s d place place o t;
+    }

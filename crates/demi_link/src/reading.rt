@@ -31,7 +31,7 @@ impl Desk {
         ensures seen { C.seen cx.new ≡ C.seen cx.old }
         ensures goes { C.goes self.old.link cx.old cx.new }
     {
-        if self.index == u32::MAX {
+        if self.index >= u32::MAX {
             return ends(Cause::Lost);
         }
         match self.decoder.next() {
