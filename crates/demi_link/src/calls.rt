@@ -118,7 +118,7 @@ pub trait Calls: Scanner {
     /// left of 64 bits.
     fn draw(&mut self, link: u16, talk: &Mark<Talk>) -> Option<u64>
         requires { of_link link (sight self.old link).draws ≡ numbered link 0 talk.now.value.kept.drawn }
-        ensures some { IfSome result (λ n. (n ≡ length (sight self.old link).draws + 1) × (sight self.new link ≡ record (sight self.old link) { draws = (sight self.old link).draws ++ record { link = link; index = length talk.now.value.kept.drawn; request = talk.now.value.request } ∷ [] }) × (events self.new ≡ events self.old)) }
+        ensures some { IfSome result (λ n. (n ≡ length (sight self.old link).draws + 1) × (n ≤ 18446744073709551615) × (sight self.new link ≡ record (sight self.old link) { draws = (sight self.old link).draws ++ record { link = link; index = length talk.now.value.kept.drawn; request = talk.now.value.request } ∷ [] }) × (events self.new ≡ events self.old)) }
         ensures none { IfNone result ((sight self.new link ≡ sight self.old link) × Adds (events self.old) (events self.new) NumbersUsedUp × (18446744073709551615 ≤ length (sight self.old link).draws)) }
         ensures seen { Self.seen self.new ≡ Self.seen self.old }
         ensures goes { Self.goes link self.old self.new };

@@ -46,14 +46,18 @@ impl Desk {
         ensures seen { C.seen cx.new ≡ C.seen cx.old }
         ensures goes { C.goes self.old.link cx.old cx.new }
     {
-        let Some(sequence) = cx.draw(self.link, &self.talk) else {
-            head.lose();
-            return ends(Cause::Lost);
-        };
-        self.talk = one_plain(&self.talk, sequence);
-        self.index += 1;
-        let head = written(head, &reply_head(BYE, self.worker, sequence, 0, 0));
-        self.push(AppSga::of(head), Some(Cause::Bye), cx)
+        match cx.draw(self.link, &self.talk) {
+            Some(sequence) => {
+                self.talk = one_plain(&self.talk, sequence);
+                self.index += 1;
+                let head = written(head, &reply_head(BYE, self.worker, sequence, 0, 0));
+                self.push(AppSga::of(head), Some(Cause::Bye), cx)
+            }
+            None => {
+                head.lose();
+                ends(Cause::Lost)
+            }
+        }
     }
 
     // Claims two buffers for the reply to a refused end. Where one of them can't be had, none is kept, and no number is drawn.
@@ -101,16 +105,20 @@ impl Desk {
         ensures seen { C.seen cx.new ≡ C.seen cx.old }
         ensures goes { C.goes self.old.link cx.old cx.new }
     {
-        let Some(sequence) = cx.draw(self.link, &self.talk) else {
-            head.lose();
-            tail.lose();
-            return ends(Cause::Lost);
-        };
-        self.talk = one_plain(&self.talk, sequence);
-        self.index += 1;
-        let head = written(head, &reply_head(REFUSED, self.worker, sequence, 0, 1));
-        let tail = written(tail, &[code]);
-        let sga = joined(head, Some(AppSga::of(tail)));
-        self.push(sga, Some(Cause::Refused(code)), cx)
+        match cx.draw(self.link, &self.talk) {
+            Some(sequence) => {
+                self.talk = one_plain(&self.talk, sequence);
+                self.index += 1;
+                let head = written(head, &reply_head(REFUSED, self.worker, sequence, 0, 1));
+                let tail = written(tail, &[code]);
+                let sga = joined(head, Some(AppSga::of(tail)));
+                self.push(sga, Some(Cause::Refused(code)), cx)
+            }
+            None => {
+                head.lose();
+                tail.lose();
+                ends(Cause::Lost)
+            }
+        }
     }
 }
