@@ -1,8 +1,10 @@
 pub mod Arriving
 pub mod Asks
+pub mod Backs
 pub mod Found
 pub mod Frames
 pub mod Lists
 pub mod Pushes
 pub mod Sides
 pub mod Taken
+pub mod Tells

@@ -1,5 +1,6 @@
 -- What comes back from the store, and what of it goes along with a reply.
-use Rattle.std.specs.Prelude.{◌≡◌, ℕ, ◌==◌, cond, List, [], ◌∷◌, Option, Some, None}
+use Rattle.std.specs.Prelude.{◌≡◌, ◌≤◌, ℕ, ◌==◌, cond, length, List, [], ◌∷◌, Option, Some, None}
+use Rattle.demi_buf.specs.Bufs.{size_of}
 use Rattle.demi_heap.specs.Seen.{HalfValue, HeapId}
 use Rattle.demi_sga.specs.Arrays.{AreOf, LentValue, SameSlots, byte_count}
 use Rattle.demi_store.specs.declared.answer.StoreAnswer.{StoreAnswer}
@@ -12,6 +13,12 @@ abbrev pub segments_of : Back → Option (List HalfValue)
 segments_of Nothing = None
 segments_of (Value sga) = Some sga
 segments_of (Room room) = Some (room ∷ [])
+
+-- a room that comes back has at most as many bytes as it holds
+abbrev pub RoomHolds : Back → Type 0
+RoomHolds Nothing = Unit {0}
+RoomHolds (Value sga) = Unit {0}
+RoomHolds (Room room) = length room.bytes ≤ size_of room.class
 
 -- what comes back goes with the lent halves that are at hand
 abbrev pub IsPaired : HeapId → Option LentValue → Back → Type 0

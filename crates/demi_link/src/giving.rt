@@ -2,7 +2,7 @@
 ghost use Rattle.std.specs.Prelude.{◌≡◌, ◌+◌, ◌-◌, ◌≤◌, length};
 ghost use Rattle.demi_sga.specs.Arrays.{AreOf};
 ghost use Rattle.demi_link.specs.Fitting.{body_of};
-ghost use Rattle.demi_link.specs.Giving.{IsPaired, segments_of, where_bytes};
+ghost use Rattle.demi_link.specs.Giving.{IsPaired, RoomHolds, segments_of, where_bytes};
 
 use crate::calls::Calls;
 use demi_sga::{AppSga, LentSga};
@@ -24,6 +24,7 @@ pub(crate) fn taken_back<C: Calls>(
 ) -> Option<AppSga>
     requires { IsPaired (C.sight cx.old link).heap half back }
     ensures body { result ≡ segments_of back }
+    ensures room { RoomHolds back }
     ensures sight { C.sight cx.new link ≡ C.sight cx.old link }
     ensures events { C.events cx.new ≡ C.events cx.old }
     ensures seen { C.seen cx.new ≡ C.seen cx.old }
@@ -40,6 +41,7 @@ pub(crate) fn taken_back<C: Calls>(
         }
         Back::Room(room) => {
             let None = half else { unreachable!() };
+            let _len = room.len();
             Some(AppSga::of(room))
         }
     }
