@@ -1,6 +1,7 @@
 pub mod Arriving
 pub mod Asks
 pub mod Backs
+pub mod Bodies
 pub mod Found
 pub mod Frames
 pub mod Lists
@@ -8,3 +9,4 @@ pub mod Pushes
 pub mod Sides
 pub mod Taken
 pub mod Tells
+pub mod Written

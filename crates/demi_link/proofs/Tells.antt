@@ -5,7 +5,7 @@ use Rattle.demi_heap.specs.Seen.{HalfValue, HeapId}
 use Rattle.demi_port_core.specs.History.{Among}
 use Rattle.demi_port_core.specs.declared.trail.Trail.{Trail}
 use Rattle.demi_sga.specs.Arrays.{AreOf, LentValue}
-use Rattle.demi_spec.specs.Reply.{Answer}
+use Rattle.demi_spec.specs.Reply.{Answer, IsAnswer, IsReply, Reply, frame, spelling}
 use Rattle.demi_store.specs.History.{Said, standing, struck_at}
 use Rattle.demi_store.specs.Laws.{Admits, SaysTo, said_to}
 use Rattle.demi_store.specs.declared.ask.StoreAsk.{StoreAsk}
@@ -19,13 +19,13 @@ use Rattle.demi_served.specs.Keeps.{IsReplied, LinkKeeps, WorkerKeeps}
 use Rattle.demi_served.proofs.Outcomes.{outcome_said}
 use Rattle.demi_served.proofs.Stepping.{link_answered, link_handed, worker_handed}
 use Rattle.demi_link.specs.Fitting.{Fits, IsSent, Keeps, Told, answer_as, body_of, reply_as, with_reply}
-use Rattle.demi_link.specs.Giving.{RoomHolds, segments_of, where_bytes}
+use Rattle.demi_link.specs.Giving.{RoomHolds, Says, segments_of, where_bytes}
 use Rattle.demi_link.specs.Sights.{Side, Sight, worker_of}
 use Rattle.demi_link.specs.Stores.{halves_back}
 use Rattle.demi_link.specs.Talks.{DeskValue, TalkValue}
 use Rattle.demi_link.specs.declared.phase.Cause.TheVariants as cause
 use Rattle.demi_link.specs.declared.phase.Draft.{Draft}
-use Rattle.demi_link.specs.declared.phase.Phase.TheVariants.{Over, Replying}
+use Rattle.demi_link.specs.declared.phase.Phase.TheVariants.{Over, Replying, Sending}
 use Rattle.demi_link.proofs.Backs.{GivesBack, found_as, gives_back, of_op, stored_as}
 
 some_ask : {x y : StoreAsk} → Some x ≡ Some y → x ≡ y
@@ -158,3 +158,61 @@ module _ (ports : ℕ) (s : Sight) (d : DeskValue) (sequence : ℕ) (half : Opti
 
   pub found_told : (v : ℕ) → out.answer ≡ said.Found v → reply_for out ≡ Some (answer_as out.answer (array_bytes (body_of (where_bytes (segments_of out.back)))))
   found_told v e = found_as t.before.base.told answer_said t.fits.agrees.6.asked out v (of_op t.before.base.limit t.place (standing t.before.base.limit t.before.base.records (struck_at known.told) (take t.place known.heard)) pending_ask (struck_at known.told t.place)) says e
+
+-- The head of a reply, and what follows it.
+pub frame_is : (answer : StoreAnswer) (body : Option (List HalfValue)) (kind version worker sequence : ℕ) → IsSent answer body → Says answer kind version → frame kind worker sequence version (array_bytes (body_of body)) ≡ spelling (record { worker = worker; sequence = sequence; answer = answer_as answer (array_bytes (body_of body)) })
+frame_is (said.Stored v) body kind version worker sequence sent says = ap (λ (k : ℕ). frame k worker sequence version (array_bytes (body_of body))) says.0 ∙ ap (λ (n : ℕ). frame 0x81 worker sequence n (array_bytes (body_of body))) says.1
+frame_is (said.Found v) body kind version worker sequence sent says = ap (λ (k : ℕ). frame k worker sequence version (array_bytes (body_of body))) says.0 ∙ ap (λ (n : ℕ). frame 0x82 worker sequence n (array_bytes (body_of body))) says.1
+frame_is (said.Missing v) body kind version worker sequence sent says = ap (λ (k : ℕ). frame k worker sequence version (array_bytes (body_of body))) says.0 ∙ ap (λ (n : ℕ). frame 0x83 worker sequence n (array_bytes (body_of body))) says.1 ∙ ap (λ (b : Option (List HalfValue)). frame 0x83 worker sequence v (array_bytes (body_of b))) sent
+frame_is (said.Full v) body kind version worker sequence sent says = ap (λ (k : ℕ). frame k worker sequence version (array_bytes (body_of body))) says.0 ∙ ap (λ (n : ℕ). frame 0x86 worker sequence n (array_bytes (body_of body))) says.1 ∙ ap (λ (b : Option (List HalfValue)). frame 0x86 worker sequence v (array_bytes (body_of b))) sent
+frame_is said.Fault body kind version worker sequence sent says = absurd sent
+frame_is (said.Broken p) body kind version worker sequence sent says = absurd sent
+frame_is said.NoMemory body kind version worker sequence sent says = absurd sent
+frame_is (said.Stopped p) body kind version worker sequence sent says = absurd sent
+frame_is said.Halted body kind version worker sequence sent says = absurd sent
+
+-- an answer that is replied is in range
+pub answer_fits : (answer : StoreAnswer) (body : Option (List HalfValue)) (kind version : ℕ) (bytes : List ℕ) → IsSent answer body → Says answer kind version → version ≤ 18446744073709551615 → length bytes ≤ 65536 → IsAnswer (answer_as answer bytes)
+answer_fits (said.Stored v) body kind version bytes sent says low few = (subst (λ (n : ℕ). n ≤ 18446744073709551615) says.1 low, few)
+answer_fits (said.Found v) body kind version bytes sent says low few = (subst (λ (n : ℕ). n ≤ 18446744073709551615) says.1 low, few)
+answer_fits (said.Missing v) body kind version bytes sent says low few = subst (λ (n : ℕ). n ≤ 18446744073709551615) says.1 low
+answer_fits (said.Full v) body kind version bytes sent says low few = subst (λ (n : ℕ). n ≤ 18446744073709551615) says.1 low
+answer_fits said.Fault body kind version bytes sent says low few = absurd sent
+answer_fits (said.Broken p) body kind version bytes sent says low few = absurd sent
+answer_fits said.NoMemory body kind version bytes sent says low few = absurd sent
+answer_fits (said.Stopped p) body kind version bytes sent says low few = absurd sent
+answer_fits said.Halted body kind version bytes sent says low few = absurd sent
+
+pub reply_next : (ports : ℕ) (a b : Sight) (d : DeskValue) (draft : Draft) (head : HalfValue) → Fits ports a d (Replying draft) → b ≡ record a { out = a.out + 1 } → head.heap ≡ a.heap
+    → array_bytes (head ∷ body_of draft.body) ≡ spelling (reply_as d.talk.kept.worker draft) → IsAnswer (answer_as draft.answer (array_bytes (body_of draft.body))) → draft.sequence ≤ 18446744073709551615
+    → Fits ports b d (Sending (head ∷ body_of draft.body) None)
+reply_next ports a b d draft head f is heap spelled answer most =
+    let g = f.agrees in
+    let k = f.keeps in
+    let reply : Reply = reply_as d.talk.kept.worker draft in
+    let fits : IsReply reply = record { worker = (let n = k.number.2 in let m = k.number.0 in omega arith); sequence = most; answer = answer } in
+    subst (λ (x : Sight). Fits ports x d (Sending (head ∷ body_of draft.body) None)) (sym is) (record {
+      agrees = (
+        g.0,
+        g.1,
+        g.2,
+        g.3,
+        (let o = g.4 in omega arith),
+        record { worker = g.5.worker; drawn = g.5.drawn; replied = g.5.replied },
+        (heap, g.6),
+        spelled ∙ ap spelling (sym g.10),
+        subst IsReply (sym g.10) fits,
+      );
+      worker = f.worker;
+      keeps = record {
+        own = k.own;
+        kept = k.kept;
+        fits = k.fits;
+        number = k.number;
+        index = k.index;
+        reads = k.reads;
+        writes = k.writes;
+        read = k.read;
+        refusal = k.refusal;
+      };
+    })

@@ -12,7 +12,7 @@ ghost use Rattle.demi_link.specs.Giving.{IsPaired, Says, segments_of, where_byte
 use crate::buffers::{joined, written};
 use crate::calls::Calls;
 use crate::desk::Desk;
-use crate::giving::{let_go, lose_half, taken_back, with_bytes};
+use crate::giving::{body_len, let_go, lose_half, taken_back, with_bytes};
 use crate::notes::one_drafted;
 use crate::phase::{Cause, Draft, Phase};
 use crate::stand::{Stand, ends, waits, yields};
@@ -26,7 +26,8 @@ use demi_store::{StoreAnswer, StoreOut};
 // The kind and the version of a reply to what the store answered.
 fn kind_of(answer: StoreAnswer) -> (u8, u64)
     requires { IsSent answer None }
-    ensures { Says answer result.0 result.1 }
+    ensures says { Says answer result.0 result.1 }
+    ensures version { result.1 ≤ 18446744073709551615 }
 {
     match answer {
         StoreAnswer::Stored(version) => (STORED, version),
@@ -35,6 +36,12 @@ fn kind_of(answer: StoreAnswer) -> (u8, u64)
         StoreAnswer::Full(version) => (FULL, version),
         _ => unreachable!(),
     }
+}
+
+// A number of 64 bits.
+fn is_word(_n: u64)
+    ensures { _n ≤ 18446744073709551615 }
+{
 }
 
 impl Desk {
@@ -140,11 +147,9 @@ impl Desk {
             return yields(Phase::Replying(draft));
         };
         let Draft { answer, sequence, body } = draft;
-        let length = match &body {
-            Some(sga) => sga.len(),
-            None => 0,
-        };
+        let length = body_len(&body);
         let (kind, version) = kind_of(answer);
+        is_word(sequence);
         let head = written(head, &reply_head(kind, self.worker, sequence, version, length));
         self.push(joined(head, body), None, cx)
     }

@@ -1,6 +1,6 @@
 //! What a link does with what comes back from the store.
 ghost use Rattle.std.specs.Prelude.{◌≡◌, ◌+◌, ◌-◌, ◌≤◌, length};
-ghost use Rattle.demi_sga.specs.Arrays.{AreOf};
+ghost use Rattle.demi_sga.specs.Arrays.{AreOf, byte_count};
 ghost use Rattle.demi_link.specs.Fitting.{body_of};
 ghost use Rattle.demi_link.specs.Giving.{IsPaired, RoomHolds, segments_of, where_bytes};
 
@@ -83,4 +83,14 @@ pub(crate) fn with_bytes<C: Calls>(
         return None;
     }
     Some(sga)
+}
+
+// How many bytes follow the head of a reply.
+pub(crate) fn body_len(body: &Option<AppSga>) -> u32
+    ensures { result ≡ byte_count (body_of body.now) }
+{
+    match body {
+        Some(sga) => sga.len(),
+        None => 0,
+    }
 }

@@ -7,6 +7,7 @@ ghost use Rattle.demi_link.specs.Fitting.{Fits, IsHungry, Noted, Took, Told};
 ghost use Rattle.demi_link.specs.declared.phase.Phase.TheVariants.{Reading as reading, Popping as popping, Asking as asking, Holding as holding, Waiting as waiting, Replying as replying, Sending as sending, Pushing as pushing};
 ghost use Rattle.demi_link.specs.Fitting.{Wrote};
 ghost use Rattle.demi_link.specs.Events.{TxCame};
+ghost use Rattle.demi_streamq.specs.declared.tx_out.TxOut.TheVariants.{Pushed as pushed};
 
 use crate::calls::Calls;
 use crate::desk::Desk;
@@ -68,19 +69,30 @@ impl Desk {
         ensures goes { C.goes self.old.link cx.old cx.new }
     {
         match outcome {
-            TxOut::Pushed => {
-                self.talk = one_written(&self.talk, place);
-                match behind {
-                    None => self.read(cx),
-                    Some(cause) => ends(cause),
-                }
-            }
+            TxOut::Pushed => self.wrote(place, behind, cx),
             TxOut::Fault(_) => ends(Cause::WriteFault),
             TxOut::Broken(_) => ends(Cause::WriteFault),
             TxOut::Shut => ends(Cause::Lost),
             TxOut::Closed => ends(Cause::Lost),
             TxOut::Stopped(_) => ends(Cause::Lost),
             TxOut::Halted => ends(Cause::Lost),
+        }
+    }
+
+    // Goes on behind a reply that was written, or is over.
+    fn wrote<C: Calls>(&mut self, place: Place, behind: Option<Cause>, cx: &mut C) -> Stand
+        requires { Wrote (C.ports cx.old) (C.sight cx.old self.old.link) (desk_of self.old) place.0 behind pushed }
+        ensures fits { Fits (C.ports cx.new) (C.sight cx.new self.old.link) (desk_of self.new) result.phase }
+        ensures link { self.new.link ≡ self.old.link }
+        ensures answers { Answers result.phase result.next }
+        ensures cause { (before : List Event) → Adds before (C.events cx.old) (TxCame pushed) → Caused before (C.events cx.new) self.new.index result.phase }
+        ensures seen { C.seen cx.new ≡ C.seen cx.old }
+        ensures goes { C.goes self.old.link cx.old cx.new }
+    {
+        self.talk = one_written(&self.talk, place);
+        match behind {
+            None => self.read(cx),
+            Some(cause) => ends(cause),
         }
     }
 }
