@@ -1,8 +1,10 @@
+pub mod Beside
 pub mod Causes
 pub mod Desks
 pub mod Events
 pub mod Fitting
 pub mod Giving
+pub mod Linked
 pub mod Noting
 pub mod Sights
 pub mod Stores

@@ -41,12 +41,17 @@ fn kind_of(answer: StoreAnswer) -> (u8, u64)
 // A number of 64 bits.
 fn is_word(_n: u64)
     ensures { _n ≤ 18446744073709551615 }
-{
-}
+{}
 
 impl Desk {
     // Takes what the store answered, if it is there.
-    pub(crate) fn answered<C: Calls>(&mut self, token: QToken, sequence: u64, half: Option<LentSga>, cx: &mut C) -> Stand
+    pub(crate) fn answered<C: Calls>(
+        &mut self,
+        token: QToken,
+        sequence: u64,
+        half: Option<LentSga>,
+        cx: &mut C,
+    ) -> Stand
         requires { Fits (C.ports cx.old) (C.sight cx.old self.old.link) (desk_of self.old) (waiting token sequence half) }
         ensures fits { Fits (C.ports cx.new) (C.sight cx.new self.old.link) (desk_of self.new) result.phase }
         ensures link { self.new.link ≡ self.old.link }
@@ -70,7 +75,13 @@ impl Desk {
     }
 
     // Takes the value or the room back, and replies or is over.
-    fn told<C: Calls>(&mut self, sequence: u64, half: Option<LentSga>, outcome: StoreOut, cx: &mut C) -> Stand
+    fn told<C: Calls>(
+        &mut self,
+        sequence: u64,
+        half: Option<LentSga>,
+        outcome: StoreOut,
+        cx: &mut C,
+    ) -> Stand
         requires { Told (C.ports cx.old) (C.sight cx.old self.old.link) (desk_of self.old) sequence half outcome }
         ensures fits { Fits (C.ports cx.new) (C.sight cx.new self.old.link) (desk_of self.new) result.phase }
         ensures link { self.new.link ≡ self.old.link }
@@ -119,7 +130,13 @@ impl Desk {
     }
 
     // The reply at hand is what this says.
-    fn draft<C: Calls>(&mut self, answer: StoreAnswer, sequence: u64, body: Option<AppSga>, cx: &mut C) -> Stand
+    fn draft<C: Calls>(
+        &mut self,
+        answer: StoreAnswer,
+        sequence: u64,
+        body: Option<AppSga>,
+        cx: &mut C,
+    ) -> Stand
         requires { Fits (C.ports cx.old) (C.sight cx.old self.old.link) (with_reply (desk_of self.old) (record { answer = answer; sequence = sequence; body = body })) (replying (record { answer = answer; sequence = sequence; body = body })) }
         ensures fits { Fits (C.ports cx.new) (C.sight cx.new self.old.link) (desk_of self.new) result.phase }
         ensures link { self.new.link ≡ self.old.link }
@@ -128,7 +145,11 @@ impl Desk {
         ensures seen { C.seen cx.new ≡ C.seen cx.old }
         ensures goes { C.goes self.old.link cx.old cx.new }
     {
-        let draft = Draft { answer, sequence, body };
+        let draft = Draft {
+            answer,
+            sequence,
+            body,
+        };
         self.talk = one_drafted(&self.talk, &draft);
         self.reply(draft, cx)
     }
@@ -146,11 +167,18 @@ impl Desk {
         let Ok(head) = cx.claim(self.link, Class::Small) else {
             return yields(Phase::Replying(draft));
         };
-        let Draft { answer, sequence, body } = draft;
+        let Draft {
+            answer,
+            sequence,
+            body,
+        } = draft;
         let length = body_len(&body);
         let (kind, version) = kind_of(answer);
         is_word(sequence);
-        let head = written(head, &reply_head(kind, self.worker, sequence, version, length));
+        let head = written(
+            head,
+            &reply_head(kind, self.worker, sequence, version, length),
+        );
         self.push(joined(head, body), None, cx)
     }
 }

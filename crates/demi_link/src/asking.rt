@@ -51,13 +51,31 @@ impl Desk {
         let size = self.decoder.value().len() as u32;
         if size == 0 {
             let value = None;
-            return self.ask(None, StoreOp::Put { link, index, key, value }, cx);
+            return self.ask(
+                None,
+                StoreOp::Put {
+                    link,
+                    index,
+                    key,
+                    value,
+                },
+                cx,
+            );
         }
         match cx.sgaalloc(link, size) {
             Ok(sga) => {
                 let (half, dev) = cx.lend(link, filled(sga, self.decoder.value()));
                 let value = Some(dev);
-                self.ask(Some(half), StoreOp::Put { link, index, key, value }, cx)
+                self.ask(
+                    Some(half),
+                    StoreOp::Put {
+                        link,
+                        index,
+                        key,
+                        value,
+                    },
+                    cx,
+                )
             }
             Err(_) => yields(Phase::Asking(Kind::Put)),
         }

@@ -19,7 +19,7 @@ pub(crate) struct Desk {
     pub(crate) talk: Mark<Talk>,
 }
 
-fn nothing_said(worker: u8) -> Mark<Talk>
+pub(crate) fn nothing_said(worker: u8) -> Mark<Talk>
     ensures { result.value ≡ new_talk worker }
 {
     Mark::from(&worker, &())

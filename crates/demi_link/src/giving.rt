@@ -62,11 +62,7 @@ pub(crate) fn let_go<C: Calls>(link: u16, body: Option<AppSga>, cx: &mut C)
 }
 
 // What has bytes to send. It is freed where it has none.
-pub(crate) fn with_bytes<C: Calls>(
-    link: u16,
-    body: Option<AppSga>,
-    cx: &mut C,
-) -> Option<AppSga>
+pub(crate) fn with_bytes<C: Calls>(link: u16, body: Option<AppSga>, cx: &mut C) -> Option<AppSga>
     requires heap { AreOf (C.sight cx.old link).heap (body_of body) }
     requires out { (C.sight cx.old link).out ≡ length (body_of body) }
     ensures body { result ≡ where_bytes body }

@@ -7,6 +7,7 @@ mod buffers;
 mod calls;
 mod desk;
 mod giving;
+mod link;
 mod notes;
 mod phase;
 mod plainly;
@@ -17,5 +18,6 @@ mod stand;
 mod talk;
 
 pub use calls::{Calls, NoToken};
+pub use link::{Link, LinkEnd};
 pub use phase::{Cause, Draft, Kind, Phase};
 pub use talk::Talk;

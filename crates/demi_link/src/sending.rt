@@ -41,7 +41,12 @@ impl Desk {
     }
 
     // Goes on once the reply was written, or is over.
-    pub(crate) fn sent<C: Calls>(&mut self, token: QToken, behind: Option<Cause>, cx: &mut C) -> Stand
+    pub(crate) fn sent<C: Calls>(
+        &mut self,
+        token: QToken,
+        behind: Option<Cause>,
+        cx: &mut C,
+    ) -> Stand
         requires { Fits (C.ports cx.old) (C.sight cx.old self.old.link) (desk_of self.old) (pushing token behind) }
         ensures fits { Fits (C.ports cx.new) (C.sight cx.new self.old.link) (desk_of self.new) result.phase }
         ensures link { self.new.link ≡ self.old.link }
@@ -59,7 +64,13 @@ impl Desk {
     }
 
     // Goes on with what a push came to.
-    fn came<C: Calls>(&mut self, place: Place, outcome: TxOut, behind: Option<Cause>, cx: &mut C) -> Stand
+    fn came<C: Calls>(
+        &mut self,
+        place: Place,
+        outcome: TxOut,
+        behind: Option<Cause>,
+        cx: &mut C,
+    ) -> Stand
         requires { Wrote (C.ports cx.old) (C.sight cx.old self.old.link) (desk_of self.old) place.0 behind outcome }
         ensures fits { Fits (C.ports cx.new) (C.sight cx.new self.old.link) (desk_of self.new) result.phase }
         ensures link { self.new.link ≡ self.old.link }

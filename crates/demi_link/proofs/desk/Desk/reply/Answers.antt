@@ -27,7 +27,7 @@ push-requires g c =
     let long : c.body_len-length.result ≡ length bytes = c.body_len-length.ensures ∙ sym (array_count (body_of body)) in
     let worker : d.worker ≡ d.talk.kept.worker = f.keeps.number.1 ∙ sym f.keeps.number.0 in
     let spelled : array_bytes (head ∷ body_of body) ≡ spelling (reply_as d.talk.kept.worker draft) =
-        ap (λ (l : List ℕ). l ++ bytes) is ∙ c.reply_head.ensures bytes long ∙ ap (λ (w : ℕ). frame kind w draft.sequence version bytes) worker ∙ frame_is draft.answer body kind version d.talk.kept.worker draft.sequence f.agrees.9 says in
+    ap (λ (l : List ℕ). l ++ bytes) is ∙ c.reply_head.ensures bytes long ∙ ap (λ (w : ℕ). frame kind w draft.sequence version bytes) worker ∙ frame_is draft.answer body kind version d.talk.kept.worker draft.sequence f.agrees.9 says in
     subst (λ (p : ℕ). Fits p b d (Sending c.joined.result None)) (sym (g.met.C.Scanner.goes_ports d.link _ _ c.in-Ok.ensures.goes))
     (subst (λ (l : List HalfValue). Fits (g.C.Scanner.ports c.args.cx.now) b d (Sending l None)) (sym c.joined.ensures)
     (reply_next (g.C.Scanner.ports c.args.cx.now) a b d draft head f c.in-Ok.ensures.taken.0 heap spelled (answer_fits draft.answer body kind version bytes f.agrees.9 says c.kind_of-kind.ensures.version f.agrees.8) c.is_word.ensures))

@@ -29,7 +29,7 @@ push-requires g c =
     let head = c.written-head.result in
     let bytes : head.bytes ≡ c.reply_head.result = ap (λ (x : HalfValue). x.bytes) c.written-head.ensures in
     let spelled : array_bytes (head ∷ []) ≡ spelling (record { worker = d.talk.kept.worker; sequence = n; answer = plain_answer q }) =
-        ap (λ (l : List ℕ). l ++ []) bytes ∙ c.reply_head.ensures [] refl ∙ ap (λ (w : ℕ). frame 0x85 w n 0 []) (h.fits.keeps.number.1 ∙ sym h.fits.keeps.number.0) ∙ ap (λ (x : Asked). spelling (record { worker = d.talk.kept.worker; sequence = n; answer = plain_answer x })) (sym is.0) in
+    ap (λ (l : List ℕ). l ++ []) bytes ∙ c.reply_head.ensures [] refl ∙ ap (λ (w : ℕ). frame 0x85 w n 0 []) (h.fits.keeps.number.1 ∙ sym h.fits.keeps.number.0) ∙ ap (λ (x : Asked). spelling (record { worker = d.talk.kept.worker; sequence = n; answer = plain_answer x })) (sym is.0) in
     subst (λ (p : ℕ). Fits p b (desk_drawn d c.one_plain.result.value) (Sending c.of.result (Some cause.Bye))) (sym (g.met.C.Scanner.goes_ports d.link _ _ c.in-Some.ensures.goes))
     (subst (λ (a : List HalfValue). Fits (g.C.Scanner.ports c.args.cx.now) b (desk_drawn d c.one_plain.result.value) (Sending a (Some cause.Bye))) (sym c.of.ensures)
     (plain_next (g.C.Scanner.ports c.args.cx.now) s b d kind.Bye 1 (Some cause.Bye) (head ∷ []) n c.one_plain.result.value h is

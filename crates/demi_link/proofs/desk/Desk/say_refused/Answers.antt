@@ -38,7 +38,7 @@ push-requires g c =
     let parses = subst (λ (r : Option ℕ). IfSome r (λ x. Parses d.talk.handed (Refused x) true (all_bytes d.talk.outs))) is.1 h.fits.keeps.refusal in
     let fits : IsAnswer (plain_answer (Refused_end code)) = parses_code d.talk.handed (all_bytes d.talk.outs) code parses in
     let spelled : array_bytes (head ∷ tail ∷ []) ≡ spelling (record { worker = d.talk.kept.worker; sequence = n; answer = plain_answer q }) =
-        ap (λ (l : List ℕ). l ++ (tail.bytes ++ [])) bytes ∙ ap (λ (l : List ℕ). c.reply_head.result ++ (l ++ [])) last ∙ c.reply_head.ensures (code ∷ []) refl ∙ ap (λ (w : ℕ). frame 0x84 w n 0 (code ∷ [])) (h.fits.keeps.number.1 ∙ sym h.fits.keeps.number.0) ∙ ap (λ (x : Asked). spelling (record { worker = d.talk.kept.worker; sequence = n; answer = plain_answer x })) (sym is.0) in
+    ap (λ (l : List ℕ). l ++ (tail.bytes ++ [])) bytes ∙ ap (λ (l : List ℕ). c.reply_head.result ++ (l ++ [])) last ∙ c.reply_head.ensures (code ∷ []) refl ∙ ap (λ (w : ℕ). frame 0x84 w n 0 (code ∷ [])) (h.fits.keeps.number.1 ∙ sym h.fits.keeps.number.0) ∙ ap (λ (x : Asked). spelling (record { worker = d.talk.kept.worker; sequence = n; answer = plain_answer x })) (sym is.0) in
     subst (λ (p : ℕ). Fits p b (desk_drawn d c.one_plain.result.value) (Sending c.joined-sga.result (Some (cause.Refused code)))) (sym (g.met.C.Scanner.goes_ports d.link _ _ c.in-Some.ensures.goes))
     (subst (λ (a : List HalfValue). Fits (g.C.Scanner.ports c.args.cx.now) b (desk_drawn d c.one_plain.result.value) (Sending a (Some (cause.Refused code)))) (sym sga)
     (plain_next (g.C.Scanner.ports c.args.cx.now) s b d (kind.Refused code) 2 (Some (cause.Refused code)) (head ∷ tail ∷ []) n c.one_plain.result.value h is

@@ -30,7 +30,7 @@ pub pop-requires : goal.pop-requires
 pop-requires g c = let d = desk_of c.args.self.now in let ports = g.C.Scanner.ports c.args.cx.now in let s = g.C.Calls.sight c.args.cx.now d.link in
     let p = c.args.place.0 in
     let n = noted ports s d p NoSlot c.one_placed-placed.result.value c.one_taken.result.value (subst (Took ports s d p) c.in-NoSlot.is c.requires) c.one_placed-placed.ensures
-        (c.one_taken.ensures ∙ ap (λ (o : RxOut). after_taken c.one_placed-placed.result.value c.one_placed-placed.result.value.place o) c.in-NoSlot.is) in
+    (c.one_taken.ensures ∙ ap (λ (o : RxOut). after_taken c.one_placed-placed.result.value c.one_placed-placed.result.value.place o) c.in-NoSlot.is) in
     subst (λ (t : TalkValue). IsHungry ports s (record d { talk = t })) (sym n.now) (taken_hungry ports s (record d { talk = n.was }) n.was.place NoSlot n.took refl refl)
 
 pub returns-in-NoSlot-clause-cause : goal.returns-in-NoSlot-clause-cause
@@ -40,7 +40,7 @@ pub returns-in-Fault-clause-fits : goal.returns-in-Fault-clause-fits
 returns-in-Fault-clause-fits g c = let d = desk_of c.args.self.now in let ports = g.C.Scanner.ports c.args.cx.now in let s = g.C.Calls.sight c.args.cx.now d.link in
     let o : RxOut = Fault c.in-Fault.field-0 in
     let n = noted ports s d c.args.place.0 o c.one_placed-placed.result.value c.one_taken.result.value (subst (Took ports s d c.args.place.0) c.in-Fault.is c.requires) c.one_placed-placed.ensures
-        (c.one_taken.ensures ∙ ap (λ (x : RxOut). after_taken c.one_placed-placed.result.value c.one_placed-placed.result.value.place x) c.in-Fault.is) in
+    (c.one_taken.ensures ∙ ap (λ (x : RxOut). after_taken c.one_placed-placed.result.value c.one_placed-placed.result.value.place x) c.in-Fault.is) in
     subst (λ (p : Phase). Fits ports s (record d { talk = c.one_taken.result.value }) p) (sym c.ends.ensures.phase)
     (subst (λ (t : TalkValue). Fits ports s (record d { talk = t }) (Over cause.ReadFault)) (sym n.now) (taken_fault ports s (record d { talk = n.was }) n.was.place o n.took refl refl))
 
@@ -51,7 +51,7 @@ pub returns-in-Broken-clause-fits : goal.returns-in-Broken-clause-fits
 returns-in-Broken-clause-fits g c = let d = desk_of c.args.self.now in let ports = g.C.Scanner.ports c.args.cx.now in let s = g.C.Calls.sight c.args.cx.now d.link in
     let o : RxOut = Broken c.in-Broken.field-0 in
     let n = noted ports s d c.args.place.0 o c.one_placed-placed.result.value c.one_taken.result.value (subst (Took ports s d c.args.place.0) c.in-Broken.is c.requires) c.one_placed-placed.ensures
-        (c.one_taken.ensures ∙ ap (λ (x : RxOut). after_taken c.one_placed-placed.result.value c.one_placed-placed.result.value.place x) c.in-Broken.is) in
+    (c.one_taken.ensures ∙ ap (λ (x : RxOut). after_taken c.one_placed-placed.result.value c.one_placed-placed.result.value.place x) c.in-Broken.is) in
     subst (λ (p : Phase). Fits ports s (record d { talk = c.one_taken.result.value }) p) (sym c.ends-in-Broken.ensures.phase)
     (subst (λ (t : TalkValue). Fits ports s (record d { talk = t }) (Over cause.ReadFault)) (sym n.now) (taken_fault ports s (record d { talk = n.was }) n.was.place o n.took refl refl))
 
@@ -62,7 +62,7 @@ pub returns-in-Stopped-clause-fits : goal.returns-in-Stopped-clause-fits
 returns-in-Stopped-clause-fits g c = let d = desk_of c.args.self.now in let ports = g.C.Scanner.ports c.args.cx.now in let s = g.C.Calls.sight c.args.cx.now d.link in
     let o : RxOut = Stopped c.in-Stopped.field-0 in
     let n = noted ports s d c.args.place.0 o c.one_placed-placed.result.value c.one_taken.result.value (subst (Took ports s d c.args.place.0) c.in-Stopped.is c.requires) c.one_placed-placed.ensures
-        (c.one_taken.ensures ∙ ap (λ (x : RxOut). after_taken c.one_placed-placed.result.value c.one_placed-placed.result.value.place x) c.in-Stopped.is) in
+    (c.one_taken.ensures ∙ ap (λ (x : RxOut). after_taken c.one_placed-placed.result.value c.one_placed-placed.result.value.place x) c.in-Stopped.is) in
     subst (λ (p : Phase). Fits ports s (record d { talk = c.one_taken.result.value }) p) (sym c.ends-in-Stopped.ensures.phase)
     (subst (λ (t : TalkValue). Fits ports s (record d { talk = t }) (Over cause.Lost)) (sym n.now) (taken_lost ports s (record d { talk = n.was }) n.was.place o n.took refl))
 
@@ -73,7 +73,7 @@ pub returns-clause-fits : goal.returns-clause-fits
 returns-clause-fits g c = let d = desk_of c.args.self.now in let ports = g.C.Scanner.ports c.args.cx.now in let s = g.C.Calls.sight c.args.cx.now d.link in
     let o : RxOut = Halted in
     let n = noted ports s d c.args.place.0 o c.one_placed-placed.result.value c.one_taken.result.value (subst (Took ports s d c.args.place.0) c.in-Halted.is c.requires) c.one_placed-placed.ensures
-        (c.one_taken.ensures ∙ ap (λ (x : RxOut). after_taken c.one_placed-placed.result.value c.one_placed-placed.result.value.place x) c.in-Halted.is) in
+    (c.one_taken.ensures ∙ ap (λ (x : RxOut). after_taken c.one_placed-placed.result.value c.one_placed-placed.result.value.place x) c.in-Halted.is) in
     subst (λ (p : Phase). Fits ports s (record d { talk = c.one_taken.result.value }) p) (sym c.ends-in-Halted.ensures.phase)
     (subst (λ (t : TalkValue). Fits ports s (record d { talk = t }) (Over cause.Lost)) (sym n.now) (taken_lost ports s (record d { talk = n.was }) n.was.place o n.took refl))
 
