@@ -28,7 +28,7 @@ use Rattle.demi_link.specs.Talks.{TalkValue}
 use Rattle.demi_link.proofs.Lists.{above_floor, all_as, all_next, map_next, ops_next, rises_next}
 
 -- a pass that was handed more still has what it had
-taken_grows : (p : Side RxOp RxTold) (known : Trail RxOp RxTold) (q : Side RxOp RxTold) (o : ℕ × RxOut) → q.known ≡ known → Behind known p.known → IsTaken p o → IsTaken q o
+pub taken_grows : (p : Side RxOp RxTold) (known : Trail RxOp RxTold) (q : Side RxOp RxTold) (o : ℕ × RxOut) → q.known ≡ known → Behind known p.known → IsTaken p o → IsTaken q o
 taken_grows p known q o is b h =
     let r : Side RxOp RxTold = record q { known = known } in
     let told = b.told in
@@ -38,7 +38,7 @@ taken_grows p known q o is b h =
     let low : o.0 < known.floor = (let f = b.floor in let l = h.1 in omega arith) in
     subst (λ (z : Trail RxOp RxTold). RxAdmits z.heard z.told o.0 o.1 × (o.0 < z.floor)) (sym is) (now, low)
 
-written_grows : (p : Side TxOp ℕ) (known : Trail TxOp ℕ) (q : Side TxOp ℕ) (place : ℕ) → q.known ≡ known → Behind known p.known → IsWritten p place → IsWritten q place
+pub written_grows : (p : Side TxOp ℕ) (known : Trail TxOp ℕ) (q : Side TxOp ℕ) (place : ℕ) → q.known ≡ known → Behind known p.known → IsWritten p place → IsWritten q place
 written_grows p known q place is b h =
     let told = b.told in
     let above = above_floor place p.known.floor told.0 h.1 told.2 in

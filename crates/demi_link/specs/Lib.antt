@@ -1,6 +1,7 @@
 pub mod Beside
 pub mod Causes
 pub mod Desks
+pub mod Ends
 pub mod Events
 pub mod Fitting
 pub mod Giving
