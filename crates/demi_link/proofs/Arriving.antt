@@ -1,10 +1,10 @@
 -- What fits stays so where nothing of it changes.
-use Rattle.std.specs.Prelude.{◌≡◌, ◌⊎◌, ℕ, ◌++◌, List, [], ◌∷◌, Option, Some, None, refl}
+use Rattle.std.specs.Prelude.{◌≡◌, ℕ, ◌++◌, List, [], ◌∷◌, Option, Some, None}
 use Rattle.std.proofs.Common.{sym, ◌∙◌, ap, subst, inl, inr, append-nil, append_assoc}
 use Rattle.demi_port_core.specs.Trails.{StartsWith}
-use Rattle.demi_link.specs.Causes.{Answers, Caused, EndsFor, IsCause, LastIs}
+use Rattle.demi_link.specs.Causes.{Caused, EndsFor, IsCause, LastIs}
 use Rattle.demi_link.specs.Events.{Adds, Event}
-use Rattle.demi_link.specs.Fitting.{Fits, IsBehind, Keeps}
+use Rattle.demi_link.specs.Fitting.{Fits, IsBehind}
 use Rattle.demi_link.specs.Sights.{Sight}
 use Rattle.demi_link.specs.Talks.{DeskValue, TalkValue}
 use Rattle.demi_link.specs.declared.phase.Cause.{Cause}

@@ -1,20 +1,20 @@
 -- What fits once the store was asked, and once a number was drawn for a plain reply.
-use Rattle.std.specs.Prelude.{◌≡◌, ℕ, ◌+◌, ◌-◌, ◌<◌, ◌≤◌, true, List, [], ◌∷◌, ◌++◌, Option, Some, None, length, refl, slice_get}
+use Rattle.std.specs.Prelude.{◌≡◌, ℕ, ◌+◌, ◌-◌, ◌<◌, ◌≤◌, List, [], ◌∷◌, ◌++◌, Option, Some, None, length, refl}
 use Rattle.std.proofs.Common.{sym, ◌∙◌, ap, arith, subst, length-append}
 use Rattle.demi_heap.specs.Seen.{HalfValue, HeapId}
 use Rattle.demi_port_core.specs.declared.place.QToken.{QToken}
 use Rattle.demi_sga.specs.Arrays.{AreOf, LentValue}
 use Rattle.demi_spec.specs.Input.{Asked}
-use Rattle.demi_spec.specs.Reply.{IsAnswer, IsReply, Reply, spelling}
+use Rattle.demi_spec.specs.Reply.{IsAnswer, Reply, spelling}
 use Rattle.demi_store.specs.declared.ask.StoreAsk.{StoreAsk}
 use Rattle.demi_store.specs.declared.op.StoreOp.{StoreOp}
 use Rattle.demi_store.specs.declared.told.StoreTold.{StoreTold}
 use Rattle.demi_streamq.specs.Sending.{array_bytes}
 use Rattle.demi_served.specs.Asking.{Ask, asks_for, ask_of, plain_answer}
-use Rattle.demi_served.specs.Keeps.{Draw, Link, LinkKeeps, IsDrawn, IsReplied, numbered, of_link}
+use Rattle.demi_served.specs.Keeps.{Draw, LinkKeeps, IsDrawn, IsReplied}
 use Rattle.demi_served.specs.Steps.{after_drawn}
 use Rattle.demi_served.proofs.Stepping.{link_asked, link_drawn, worker_asked, worker_drawn}
-use Rattle.demi_link.specs.Fitting.{Fits, HasClaimed, HasHalves, IsAtHand, IsBehind, Keeps, lent_out}
+use Rattle.demi_link.specs.Fitting.{Fits, HasClaimed, IsBehind, Keeps}
 use Rattle.demi_link.specs.Sights.{Side, Sight, Submits, worker_of}
 use Rattle.demi_link.specs.Stores.{halves_in}
 use Rattle.demi_link.specs.Talks.{DeskValue, TalkValue}

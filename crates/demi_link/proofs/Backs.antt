@@ -1,16 +1,15 @@
 -- What comes back from the store, by what it was asked and says.
-use Rattle.std.specs.Prelude.{◌≡◌, ℕ, ◌+◌, ◌-◌, ◌<◌, ◌≤◌, ◌==◌, nat_le, cond, Bool, true, false, List, [], ◌∷◌, ◌++◌, Option, Some, None, length, take, refl}
+use Rattle.std.specs.Prelude.{◌≡◌, ℕ, ◌+◌, ◌≤◌, ◌==◌, nat_le, cond, Bool, true, false, List, [], ◌∷◌, ◌++◌, Option, Some, None, length, refl}
 use Rattle.std.proofs.Common.{sym, ◌∙◌, ap, arith, subst, length-append, append-nil}
 use Rattle.std.proofs.lemmas.Bool.Decides.{nat_tests}
 use Rattle.demi_buf.specs.Bufs.{size_of}
 use Rattle.demi_buf.specs.declared.class.Class.{Class}
-use Rattle.demi_buf.specs.declared.class.Class.TheVariants.{Large}
 use Rattle.demi_heap.specs.Seen.{HalfValue, HeapId}
 use Rattle.demi_logq.specs.Folding.{bytes_of}
 use Rattle.demi_sga.specs.Arrays.{AreOf, LentValue, SameSlots, byte_count}
 use Rattle.demi_spec.specs.Request as request
 use Rattle.demi_spec.specs.Input.{Request_of}
-use Rattle.demi_spec.specs.Reply.{Answer, Stored, Found, Missing, Refused, Bye, Full}
+use Rattle.demi_spec.specs.Reply.{Stored, Found, Missing, Refused, Bye, Full}
 use Rattle.demi_spec.specs.Store.{found}
 use Rattle.demi_spec.specs.Store as store
 use Rattle.demi_store.specs.History.{Said, Told, Fault, NoMemory, Broken, Stopped, Halted, Standing, answered, get_open, put_open, said_at, said_by, said_open, value_bytes}

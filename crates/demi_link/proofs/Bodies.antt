@@ -1,5 +1,5 @@
 -- What has bytes of what came back.
-use Rattle.std.specs.Prelude.{◌≡◌, ℕ, ◌≤◌, ◌==◌, cond, Bool, true, false, List, [], ◌∷◌, Option, Some, None, length}
+use Rattle.std.specs.Prelude.{◌≤◌, ◌==◌, cond, Bool, true, false, List, Option, Some, None, length}
 use Rattle.std.proofs.Common.{arith}
 use Rattle.demi_heap.specs.Seen.{HalfValue, HeapId}
 use Rattle.demi_sga.specs.Arrays.{AreOf, byte_count}

@@ -10,7 +10,7 @@ use Rattle.demi_port_core.specs.History.{Among, Each}
 use Rattle.demi_port_core.specs.Trails.{Behind, StartsWith}
 use Rattle.demi_port_core.specs.declared.trail.Trail.{Trail}
 use Rattle.demi_spec.specs.Request.{Request}
-use Rattle.demi_spec.specs.Input.{Asked, Clean, EndFrame, Ending, Parses, Refused, Refused_end, Request_of, asked, asked_of}
+use Rattle.demi_spec.specs.Input.{Asked, Clean, EndFrame, Ending, Parses, Refused, Request_of, asked, asked_of}
 use Rattle.demi_streamq.specs.Receiving.{RxAdmits}
 use Rattle.demi_streamq.specs.RxKept.{all_bytes}
 use Rattle.demi_streamq.specs.Sending.{TxAdmits}
@@ -26,10 +26,10 @@ use Rattle.demi_served.specs.Reading.{IsPlaceOf, Popped}
 use Rattle.demi_served.specs.Writing.{WroteAll, WroteBefore, texts_of}
 use Rattle.demi_served.proofs.Stepping.{first_link}
 use Rattle.demi_link.specs.Ends.{IsDone, IsKnown, new_desk}
-use Rattle.demi_link.specs.Fitting.{AllTaken, Fits, IsOver, IsPush, IsTaken, IsWritten, ops_of, places}
+use Rattle.demi_link.specs.Fitting.{AllTaken, Fits, IsPush, IsTaken, IsWritten, ops_of, places}
 use Rattle.demi_link.specs.Linked.{IsFresh}
-use Rattle.demi_link.specs.Sights.{Side, Sight, worker_of}
-use Rattle.demi_link.specs.Talks.{DeskValue, TalkValue, new_talk, read_by, refusal}
+use Rattle.demi_link.specs.Sights.{Sight, worker_of}
+use Rattle.demi_link.specs.Talks.{DeskValue, read_by, refusal}
 use Rattle.demi_link.specs.declared.phase.Cause.{Cause}
 use Rattle.demi_link.specs.declared.phase.Cause.TheVariants as cause
 use Rattle.demi_link.specs.declared.phase.Phase.TheVariants.{Over, Reading}

@@ -1,20 +1,19 @@
 -- What fits once the decoder handed a request out.
-use Rattle.std.specs.Prelude.{◌≡◌, ℕ, ◌+◌, ◌<◌, ◌≤◌, List, [], ◌∷◌, ◌++◌, Option, Some, None, IfSome, length, map, refl, true}
-use Rattle.std.proofs.Common.{sym, ◌∙◌, ap, arith, subst, append-nil}
+use Rattle.std.specs.Prelude.{◌≡◌, ℕ, List, [], ◌∷◌, ◌++◌, Option, Some, None, IfSome, map, refl, true}
+use Rattle.std.proofs.Common.{sym, ◌∙◌, ap, subst, append-nil}
 use Rattle.demi_frame.specs.Decoding.{Decoding}
 use Rattle.demi_frame.specs.Reading.{HasRead}
 use Rattle.demi_frame.specs.declared.decoder.Step.TheVariants as step
 use Rattle.demi_spec.specs.Request.{Request, Put, Get, End}
-use Rattle.demi_spec.specs.Input.{Asked, Request_of, Refused_end, Parses}
-use Rattle.demi_spec.specs.Input as ends
+use Rattle.demi_spec.specs.Input.{Asked, Request_of, Refused_end}
 use Rattle.demi_streamq.specs.RxKept.{all_bytes}
 use Rattle.demi_link.specs.Fitting.{Fits, HasRoom, IsHungry, Keeps}
 use Rattle.demi_link.specs.Noting.{after_found}
 use Rattle.demi_link.specs.Sights.{Sight}
-use Rattle.demi_link.specs.Talks.{DeskValue, TalkValue, read_by, refusal}
+use Rattle.demi_link.specs.Talks.{DeskValue, TalkValue, refusal}
 use Rattle.demi_link.specs.declared.phase.Kind.TheVariants as kind
 use Rattle.demi_link.specs.declared.phase.Phase.TheVariants.{Reading, Asking}
-use Rattle.demi_link.proofs.Frames.{IsGetOut, IsPutOut, parses_code, read_refused}
+use Rattle.demi_link.proofs.Frames.{IsGetOut, IsPutOut, read_refused}
 use Rattle.demi_link.proofs.Lists.{map_next}
 
 -- the requests that were read, and one more

@@ -1,12 +1,12 @@
 -- What a decoder found, and the codes of refused ends.
-use Rattle.std.specs.Prelude.{◌≡◌, ℕ, ◌+◌, ◌<◌, ◌≤◌, ◌==◌, ◌&&◌, ◌||◌, nat_lt, cond, Bool, true, false, if◌then◌else◌, List, [], ◌∷◌, ◌++◌, Option, Some, None, IfSome, IsSome, length, drop, map, refl, take}
+use Rattle.std.specs.Prelude.{◌≡◌, ℕ, ◌+◌, ◌≤◌, ◌==◌, nat_lt, cond, Bool, true, false, List, [], ◌∷◌, ◌++◌, Option, Some, None, IfSome, length, drop, refl, take}
 use Rattle.std.proofs.Common.{sym, ◌∙◌, ap, arith, subst, append-nil}
 use Rattle.demi_frame.specs.Decoding.{Consumes, Decoding, finish_of, next_at, next_of}
 use Rattle.demi_frame.specs.Reading.{HasRead, ending_of, handed_out}
 use Rattle.demi_frame.specs.declared.decoder.Step.{Step}
 use Rattle.demi_frame.specs.declared.decoder.Step.TheVariants as step
 use Rattle.demi_frame.proofs.ReadOn.{read_end}
-use Rattle.demi_spec.specs.Request.{Request, Put, Get, End, GoesOn, IsRequest, spelling}
+use Rattle.demi_spec.specs.Request.{Request, Put, Get, End, GoesOn, IsRequest}
 use Rattle.demi_spec.specs.Input.{Ending, EndFrame, Clean, Refused, Open, Front, Whole, Ends, Parses, Takes, code_of_head, cut_short, front, front_of_content, head_kind, head_key, head_value, request_of}
 
 some_nat : {m n : ℕ} → Some m ≡ Some n → m ≡ n

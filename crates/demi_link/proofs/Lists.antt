@@ -1,7 +1,7 @@
 -- Lists that grow by one.
 use Rattle.std.specs.Prelude.{◌≡◌, ℕ, ◌+◌, ◌<◌, ◌≤◌, List, [], ◌∷◌, ◌++◌, Some, length, map, refl, slice_get}
 use Rattle.std.specs.List.{AllByRecursion}
-use Rattle.std.proofs.Common.{sym, ◌∙◌, ap, arith, subst, inl, inr}
+use Rattle.std.proofs.Common.{◌∙◌, ap, arith, inl, inr}
 use Rattle.demi_device.specs.Serving.{RiseFrom}
 use Rattle.demi_port_core.specs.History.{AllAbove, Among}
 use Rattle.demi_port_core.specs.Trails.{NoneBelow}

@@ -1,16 +1,14 @@
 -- What fits once a reply was pushed, and once it was written.
-use Rattle.std.specs.Prelude.{◌≡◌, ℕ, ◌+◌, ◌-◌, ◌<◌, ◌≤◌, true, List, [], ◌∷◌, ◌++◌, Option, Some, None, length, refl}
-use Rattle.std.specs.List.{AllByRecursion}
-use Rattle.std.proofs.Common.{sym, ◌∙◌, ap, arith, subst, length-append}
+use Rattle.std.specs.Prelude.{◌≡◌, ℕ, ◌+◌, ◌-◌, ◌<◌, ◌≤◌, List, [], ◌∷◌, ◌++◌, Option, length, refl}
+use Rattle.std.proofs.Common.{sym, ◌∙◌, ap, arith, length-append}
 use Rattle.demi_heap.specs.Seen.{HalfValue}
 use Rattle.demi_port_core.specs.declared.place.QToken.{QToken}
 use Rattle.demi_spec.specs.Reply.{IsReply}
 use Rattle.demi_streamq.specs.declared.tx_op.TxOp.{TxOp}
 use Rattle.demi_streamq.specs.declared.tx_op.TxOp.TheVariants.{Push}
-use Rattle.demi_served.specs.Keeps.{LinkKeeps}
 use Rattle.demi_served.specs.Steps.{after_reply}
 use Rattle.demi_served.proofs.Stepping.{link_replied}
-use Rattle.demi_link.specs.Fitting.{Fits, Keeps, places}
+use Rattle.demi_link.specs.Fitting.{Fits}
 use Rattle.demi_link.specs.Sights.{Side, Sight, Submits, worker_of}
 use Rattle.demi_link.specs.Talks.{DeskValue, TalkValue}
 use Rattle.demi_link.specs.declared.phase.Cause.{Cause}

@@ -6,7 +6,7 @@ use Rattle.demi_device.specs.Serving.{RiseFrom}
 use Rattle.demi_heap.specs.Seen.{HalfValue, HeapId}
 use Rattle.demi_port_core.specs.Trails.{Behind}
 use Rattle.demi_port_core.specs.declared.trail.Trail.{Trail}
-use Rattle.demi_spec.specs.Reply.{Reply, spelling}
+use Rattle.demi_spec.specs.Reply.{spelling}
 use Rattle.demi_streamq.specs.Receiving.{RxAdmits, IsFrom}
 use Rattle.demi_streamq.specs.RxSteady.{rx_steady}
 use Rattle.demi_streamq.specs.Sending.{TxAdmits, array_bytes}
@@ -21,7 +21,7 @@ use Rattle.demi_streamq.specs.declared.tx_out.TxOut.{TxOut}
 use Rattle.demi_streamq.specs.declared.tx_out.TxOut.TheVariants.{Pushed}
 use Rattle.demi_served.specs.Steps.{after_reply}
 use Rattle.demi_served.specs.Writing.{texts_of}
-use Rattle.demi_link.specs.Fitting.{IsPush, IsTaken, IsWritten, Reads, Writes, ops_of, places}
+use Rattle.demi_link.specs.Fitting.{IsPush, IsTaken, IsWritten, Reads, Writes, ops_of}
 use Rattle.demi_link.specs.Noting.{after_taken}
 use Rattle.demi_link.specs.Sights.{Redeems, Side}
 use Rattle.demi_link.specs.Talks.{TalkValue}

@@ -1,34 +1,33 @@
 -- What fits once a pop was submitted, and once it came to its outcome.
-use Rattle.std.specs.Prelude.{◌≡◌, ℕ, ◌+◌, ◌-◌, ◌<◌, ◌≤◌, ltb, cond, Bool, true, false, List, [], ◌∷◌, ◌++◌, Option, Some, None, IfSome, IsTrue, length, map, min, refl, slice_get, take}
+use Rattle.std.specs.Prelude.{◌≡◌, ℕ, ◌+◌, ◌-◌, ◌<◌, ◌≤◌, ltb, cond, Bool, true, false, List, [], ◌∷◌, ◌++◌, Option, Some, None, IfSome, length, map, refl, slice_get, take}
 use Rattle.std.proofs.Common.{sym, ◌∙◌, ap, arith, subst, append-nil, append_assoc}
 use Rattle.std.proofs.lemmas.List.{take_all}
-use Rattle.demi_device.specs.Serving.{first_stop}
-use Rattle.demi_frame.specs.Decoding.{Decoding, after_feed, room_size}
+use Rattle.demi_frame.specs.Decoding.{Decoding, after_feed}
 use Rattle.demi_frame.specs.Reading.{HasRead}
-use Rattle.demi_heap.specs.Seen.{HalfValue, HeapId}
+use Rattle.demi_heap.specs.Seen.{HalfValue}
 use Rattle.demi_port_core.specs.History.{Among}
 use Rattle.demi_port_core.specs.declared.place.QToken.{QToken}
 use Rattle.demi_spec.specs.Request.{Request}
-use Rattle.demi_spec.specs.Input.{Asked, Ending, Clean, Refused, Refused_end, Request_of, Parses}
-use Rattle.demi_streamq.specs.Receiving.{RxAdmits, RxAnswer, RxPop, RxRead, IsFrom, IsRead, is_stop, over, over_by, told_at, bytes_before}
+use Rattle.demi_spec.specs.Input.{Asked, Clean, Refused, Refused_end, Request_of, Parses}
+use Rattle.demi_streamq.specs.Receiving.{RxAdmits, RxAnswer, RxPop, RxRead, over, over_by, told_at, bytes_before}
 use Rattle.demi_streamq.specs.RxKept.{all_bytes, bytes_of, pieces_of}
 use Rattle.demi_streamq.specs.declared.rx_op.RxOp.{RxOp}
 use Rattle.demi_streamq.specs.declared.rx_op.RxOp.TheVariants.{Pop}
 use Rattle.demi_streamq.specs.declared.rx_out.RxOut.{RxOut}
-use Rattle.demi_streamq.specs.declared.rx_out.RxOut.TheVariants.{Piece, End, Fault, Broken, NoSlot, Stopped, Halted}
+use Rattle.demi_streamq.specs.declared.rx_out.RxOut.TheVariants.{Piece, Stopped}
 use Rattle.demi_streamq.specs.declared.rx_told.RxTold.{RxTold}
 use Rattle.demi_streamq.specs.declared.rx_told.RxTold.TheVariants.{Bytes, AtEnd, Failed, Refused as NoPage}
 use Rattle.demi_served.specs.Keeps.{WorkerKeeps}
-use Rattle.demi_link.specs.Fitting.{Fits, IsHungry, IsKind, Keeps, Noted, Reads, Took, places}
+use Rattle.demi_link.specs.Fitting.{Fits, IsHungry, Keeps, Noted, Took, places}
 use Rattle.demi_link.specs.Noting.{after_taken}
-use Rattle.demi_link.specs.Sights.{Redeems, Side, Sight, Submits, worker_of}
+use Rattle.demi_link.specs.Sights.{Side, Sight, Submits, worker_of}
 use Rattle.demi_link.specs.Talks.{DeskValue, TalkValue, read_by, refusal}
 use Rattle.demi_link.specs.declared.phase.Cause.TheVariants as cause
 use Rattle.demi_link.specs.declared.phase.Kind.TheVariants as kind
 use Rattle.demi_link.specs.declared.phase.Phase.{Phase}
 use Rattle.demi_link.specs.declared.phase.Phase.TheVariants.{Reading, Popping, Asking, Over}
 use Rattle.demi_link.proofs.Lists.{among_last, places_next}
-use Rattle.demi_link.proofs.Sides.{reads_lost, reads_popped, reads_taken}
+use Rattle.demi_link.proofs.Sides.{reads_popped, reads_taken}
 
 -- A pop asked for at most 4,096 bytes.
 over_gives : (e : RxTold) (k : ℕ) (more : Option RxOut) (v : HalfValue) → (more ≡ Some (Piece v) → ⊥) → over_by e k more ≡ Some (Piece v) → ⊥

@@ -1,28 +1,28 @@
 -- What fits once the store's operation came to its outcome.
-use Rattle.std.specs.Prelude.{◌≡◌, ℕ, ◌+◌, ◌-◌, ◌<◌, ◌≤◌, Bool, true, List, [], ◌∷◌, ◌++◌, Option, Some, None, length, refl, slice_get, take}
+use Rattle.std.specs.Prelude.{◌≡◌, ℕ, ◌+◌, ◌-◌, ◌≤◌, List, [], ◌∷◌, ◌++◌, Option, Some, None, length, refl, slice_get, take}
 use Rattle.std.proofs.Common.{sym, ◌∙◌, ap, arith, subst}
-use Rattle.demi_heap.specs.Seen.{HalfValue, HeapId}
+use Rattle.demi_heap.specs.Seen.{HalfValue}
 use Rattle.demi_port_core.specs.History.{Among}
 use Rattle.demi_port_core.specs.declared.trail.Trail.{Trail}
 use Rattle.demi_sga.specs.Arrays.{AreOf, LentValue}
-use Rattle.demi_spec.specs.Reply.{Answer, IsAnswer, IsReply, Reply, frame, spelling}
+use Rattle.demi_spec.specs.Reply.{IsAnswer, IsReply, Reply, frame, spelling}
 use Rattle.demi_store.specs.History.{Said, standing, struck_at}
-use Rattle.demi_store.specs.Laws.{Admits, SaysTo, said_to}
+use Rattle.demi_store.specs.Laws.{SaysTo, said_to}
 use Rattle.demi_store.specs.declared.ask.StoreAsk.{StoreAsk}
 use Rattle.demi_store.specs.declared.answer.StoreAnswer.{StoreAnswer}
 use Rattle.demi_store.specs.declared.answer.StoreAnswer.TheVariants as said
 use Rattle.demi_store.specs.declared.out.StoreOut.{StoreOut}
 use Rattle.demi_store.specs.declared.told.StoreTold.{StoreTold}
 use Rattle.demi_streamq.specs.Sending.{array_bytes}
-use Rattle.demi_served.specs.Asking.{Ask, ask_of, reply_for}
-use Rattle.demi_served.specs.Keeps.{IsReplied, LinkKeeps, WorkerKeeps}
+use Rattle.demi_served.specs.Asking.{reply_for}
+use Rattle.demi_served.specs.Keeps.{IsReplied, WorkerKeeps}
 use Rattle.demi_served.proofs.Outcomes.{outcome_said}
 use Rattle.demi_served.proofs.Stepping.{link_answered, link_handed, worker_handed}
 use Rattle.demi_link.specs.Fitting.{Fits, IsSent, Keeps, Told, answer_as, body_of, reply_as, with_reply}
-use Rattle.demi_link.specs.Giving.{RoomHolds, Says, segments_of, where_bytes}
+use Rattle.demi_link.specs.Giving.{Says, segments_of, where_bytes}
 use Rattle.demi_link.specs.Sights.{Side, Sight, worker_of}
 use Rattle.demi_link.specs.Stores.{halves_back}
-use Rattle.demi_link.specs.Talks.{DeskValue, TalkValue}
+use Rattle.demi_link.specs.Talks.{DeskValue}
 use Rattle.demi_link.specs.declared.phase.Cause.TheVariants as cause
 use Rattle.demi_link.specs.declared.phase.Draft.{Draft}
 use Rattle.demi_link.specs.declared.phase.Phase.TheVariants.{Over, Replying, Sending}

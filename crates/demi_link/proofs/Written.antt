@@ -1,20 +1,19 @@
 -- What fits once a push came to its outcome.
-use Rattle.std.specs.Prelude.{◌≡◌, ℕ, ◌+◌, ◌<◌, ◌≤◌, List, [], ◌∷◌, ◌++◌, Option, Some, None, IfSome, length, refl, true}
-use Rattle.std.proofs.Common.{sym, ◌∙◌, ap, arith, subst}
+use Rattle.std.specs.Prelude.{◌≡◌, ℕ, [], ◌∷◌, ◌++◌, Option, Some, None, IfSome, true}
+use Rattle.std.proofs.Common.{sym, ◌∙◌, ap, subst}
 use Rattle.demi_spec.specs.Input.{Refused, Parses}
 use Rattle.demi_streamq.specs.RxKept.{all_bytes}
 use Rattle.demi_streamq.specs.declared.tx_op.TxOp.{TxOp}
 use Rattle.demi_streamq.specs.declared.tx_out.TxOut.{TxOut}
 use Rattle.demi_streamq.specs.declared.tx_out.TxOut.TheVariants.{Pushed}
-use Rattle.demi_served.specs.Keeps.{WorkerKeeps}
 use Rattle.demi_link.specs.Causes.{EndsFor}
 use Rattle.demi_link.specs.Events.{TxCame}
 use Rattle.demi_link.specs.Fitting.{Fits, IsBehind, IsOver, Keeps, Wrote, places}
-use Rattle.demi_link.specs.Sights.{Side, Sight, worker_of}
+use Rattle.demi_link.specs.Sights.{Side, Sight}
 use Rattle.demi_link.specs.Talks.{DeskValue, TalkValue}
 use Rattle.demi_link.specs.declared.phase.Cause.{Cause}
 use Rattle.demi_link.specs.declared.phase.Cause.TheVariants as cause
-use Rattle.demi_link.specs.declared.phase.Phase.TheVariants.{Over, Pushing, Reading}
+use Rattle.demi_link.specs.declared.phase.Phase.TheVariants.{Over, Reading}
 use Rattle.demi_link.proofs.Frames.{read_bye}
 use Rattle.demi_link.proofs.Sides.{writes_tried, writes_written}
 

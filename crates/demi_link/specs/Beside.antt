@@ -1,6 +1,6 @@
 -- What a link keeps whatever others do.
-use Rattle.std.specs.Prelude.{◌≡◌, ◌≢◌, ℕ, ◌+◌, ◌≤◌, true, List, [], ◌∷◌, ◌++◌, Option, Some, None, length}
-use Rattle.std.proofs.Common.{sym, ◌∙◌, ap, subst, inl, inr}
+use Rattle.std.specs.Prelude.{◌≡◌, ℕ, ◌≤◌, [], Option, length}
+use Rattle.std.proofs.Common.{sym, ◌∙◌, ap, subst}
 use Rattle.demi_heap.specs.Seen.{HeapId}
 use Rattle.demi_port_core.specs.History.{Among}
 use Rattle.demi_sga.specs.Arrays.{AreOf, LentValue}

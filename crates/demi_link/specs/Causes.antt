@@ -3,7 +3,6 @@ use Rattle.std.specs.Prelude.{◌≡◌, ℕ, ◌≤◌, ◌⊎◌, ◌++◌, Li
 use Rattle.demi_port_core.specs.declared.place.QToken.{QToken}
 use Rattle.demi_sched.specs.declared.next.Next.{Next}
 use Rattle.demi_sched.specs.declared.next.Next.TheVariants.{Wait, Yield, Ended}
-use Rattle.demi_store.specs.declared.answer.StoreAnswer.{StoreAnswer}
 use Rattle.demi_store.specs.declared.answer.StoreAnswer.TheVariants as said
 use Rattle.demi_streamq.specs.declared.rx_out.RxOut.TheVariants as rx
 use Rattle.demi_streamq.specs.declared.tx_out.TxOut.TheVariants as tx

@@ -6,7 +6,6 @@ use Rattle.demi_port_core.specs.declared.place.QToken.{QToken}
 use Rattle.demi_store.specs.declared.answer.StoreAnswer.{StoreAnswer}
 use Rattle.demi_store.specs.declared.out.StoreOut.{StoreOut}
 use Rattle.demi_streamq.specs.declared.rx_out.RxOut.{RxOut}
-use Rattle.demi_streamq.specs.declared.rx_out.RxOut.TheVariants as rx
 use Rattle.demi_streamq.specs.declared.tx_out.TxOut.{TxOut}
 use Rattle.demi_link.specs.Sights.{Side, Redeems}
 

@@ -9,7 +9,7 @@ use Rattle.demi_port_core.specs.History.{Among}
 use Rattle.demi_port_core.specs.declared.place.QToken.{QToken}
 use Rattle.demi_buf.specs.declared.class.Class.TheVariants.{Small, Large}
 use Rattle.demi_sga.specs.Arrays.{AreOf, LentValue}
-use Rattle.demi_spec.specs.Request.{Request, Put, Get, End, IsRequest}
+use Rattle.demi_spec.specs.Request.{Put, Get, End, IsRequest}
 use Rattle.demi_spec.specs.Input.{Asked, Request_of, Refused_end, Parses}
 use Rattle.demi_spec.specs.Input as ends
 use Rattle.demi_spec.specs.Reply.{Answer, Reply, IsReply, Stored, Found, Missing, Full, Bye, spelling}
@@ -31,7 +31,7 @@ use Rattle.demi_streamq.specs.declared.tx_op.TxOp.TheVariants as tx
 use Rattle.demi_streamq.specs.declared.tx_out.TxOut.{TxOut}
 use Rattle.demi_streamq.specs.declared.tx_out.TxOut.TheVariants.{Pushed}
 use Rattle.demi_served.specs.Asking.{asks_for, ask_of}
-use Rattle.demi_served.specs.Keeps.{Worker, WorkerKeeps, LinkKeeps, IsDrawn, IsReplied, of_link, numbered}
+use Rattle.demi_served.specs.Keeps.{WorkerKeeps, LinkKeeps, IsDrawn, IsReplied, of_link, numbered}
 use Rattle.demi_served.specs.Writing.{texts_of}
 use Rattle.demi_link.specs.Noting.{after_taken}
 use Rattle.demi_link.specs.Sights.{Redeems, Side, Sight, worker_of}

@@ -1,5 +1,5 @@
 -- What a contract sees of a link.
-use Rattle.std.specs.Prelude.{◌≡◌, ◌≢◌, ℕ, List, []}
+use Rattle.std.specs.Prelude.{◌≡◌, ◌≢◌, ℕ, []}
 use Rattle.std.specs.List.{AllByRecursion}
 use Rattle.demi_sched.specs.declared.next.Next.{Next}
 use Rattle.demi_link.specs.Sights.{Sight}

@@ -1,5 +1,5 @@
 -- What a link notes of its steps.
-use Rattle.std.specs.Prelude.{ℕ, ◌++◌, List, [], ◌∷◌, Option, Some, None}
+use Rattle.std.specs.Prelude.{ℕ, ◌++◌, [], ◌∷◌, Option, Some, None}
 use Rattle.demi_spec.specs.Request.{Request}
 use Rattle.demi_spec.specs.Input.{Request_of}
 use Rattle.demi_streamq.specs.declared.rx_out.RxOut.{RxOut}

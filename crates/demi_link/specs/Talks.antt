@@ -1,5 +1,5 @@
 -- What a link did and heard, and what a contract sees of a link.
-use Rattle.std.specs.Prelude.{◌≡◌, ℕ, ◌++◌, List, [], ◌∷◌, map, Option, Some, None}
+use Rattle.std.specs.Prelude.{ℕ, ◌++◌, List, [], ◌∷◌, map, Option, Some, None}
 use Rattle.demi_frame.specs.Decoding.{Decoding}
 use Rattle.demi_spec.specs.Request.{Request, End}
 use Rattle.demi_spec.specs.Input.{Asked, Request_of, Refused_end}

@@ -1,7 +1,5 @@
-use Rattle.std.proofs.Common.{◌≡◌, ◌+◌, ℕ, ◌∙◌, ap, length, refl, subst, sym}
+use Rattle.std.proofs.Common.{◌+◌, ℕ, ◌∙◌, ap, length, refl}
 use Rattle.demi_link.specs.Desks.{desk_of}
-use Rattle.demi_link.specs.Fitting.{Fits}
-use Rattle.demi_link.specs.Sights.{Sight}
 use Rattle.demi_link.specs.declared.phase.Phase.TheVariants.{Waiting}
 use Rattle.demi_link.proofs.Arriving.{arrive, caused_by}
 use Rattle.demi_link.proofs.Asks.{asked_next, asked_sight, desk_drawn, sight_asked}

@@ -1,6 +1,6 @@
-use Rattle.std.proofs.Common.{◌≡◌, Option, ℕ, refl, subst, sym}
+use Rattle.std.proofs.Common.{subst, sym}
 use Rattle.demi_streamq.specs.declared.tx_out.TxOut.{TxOut}
-use Rattle.demi_streamq.specs.declared.tx_out.TxOut.TheVariants.{Pushed, Fault, Broken, Shut, Closed, Stopped, Halted}
+use Rattle.demi_streamq.specs.declared.tx_out.TxOut.TheVariants.{Fault, Broken, Shut, Closed, Stopped, Halted}
 use Rattle.demi_link.specs.Desks.{desk_of}
 use Rattle.demi_link.specs.Events.{Adds, TxCame}
 use Rattle.demi_link.specs.Fitting.{Fits, Wrote}

@@ -1,4 +1,4 @@
-use Rattle.std.proofs.Common.{◌≡◌, ◌≤◌, ◌-◌, ◌++◌, ◌∷◌, [], List, ℕ, ◌∙◌, ap, length, refl, subst, sym, take}
+use Rattle.std.proofs.Common.{◌≡◌, ◌≤◌, ◌-◌, ◌++◌, List, ℕ, ◌∙◌, ap, length, subst, sym, take}
 use Rattle.demi_frame.specs.Decoding.{after_feed}
 use Rattle.demi_frame.specs.Reading.{HasRead}
 use Rattle.demi_heap.specs.Seen.{HalfValue}

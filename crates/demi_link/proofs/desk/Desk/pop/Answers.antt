@@ -1,6 +1,6 @@
-use Rattle.std.proofs.Common.{◌≡◌, ◌∙◌, ap, refl, subst, sym}
+use Rattle.std.proofs.Common.{refl}
 use Rattle.demi_link.specs.Desks.{desk_of}
-use Rattle.demi_link.specs.declared.phase.Phase.TheVariants.{Popping, Reading}
+use Rattle.demi_link.specs.declared.phase.Phase.TheVariants.{Popping}
 use Rattle.demi_link.proofs.Arriving.{arrive, caused_by}
 use Rattle.demi_link.proofs.Taken.{popped_next, popped_sight, sight_popped}
 use Rattle.demi_link.proofs.desk.Desk.pop.Goals as goal

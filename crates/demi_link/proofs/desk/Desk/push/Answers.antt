@@ -1,8 +1,6 @@
-use Rattle.std.proofs.Common.{◌≡◌, ◌∙◌, ap, refl, subst, sym}
+use Rattle.std.proofs.Common.{◌∙◌, ap, refl, subst, sym}
 use Rattle.demi_link.specs.Causes.{Caused}
 use Rattle.demi_link.specs.Desks.{desk_of}
-use Rattle.demi_link.specs.Sights.{Sight}
-use Rattle.demi_link.specs.Talks.{TalkValue}
 use Rattle.demi_link.specs.declared.phase.Phase.{Phase}
 use Rattle.demi_link.specs.declared.phase.Phase.TheVariants.{Pushing}
 use Rattle.demi_link.proofs.Arriving.{arrive, last_of}

@@ -1,4 +1,3 @@
-use Rattle.std.proofs.Common.{◌≡◌, ◌∙◌, ap, refl, subst, sym}
 use Rattle.demi_streamq.specs.RxKept.{all_bytes}
 use Rattle.demi_link.specs.Desks.{desk_of}
 use Rattle.demi_link.proofs.Found.{found_end, found_get, found_put, found_refused, hungry_next}

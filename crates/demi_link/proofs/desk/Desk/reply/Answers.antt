@@ -1,4 +1,4 @@
-use Rattle.std.proofs.Common.{◌≡◌, ◌∷◌, ◌++◌, [], List, ℕ, None, Option, Some, ◌∙◌, ap, length, refl, subst, sym}
+use Rattle.std.proofs.Common.{◌≡◌, ◌∷◌, ◌++◌, List, ℕ, None, ◌∙◌, ap, length, subst, sym}
 use Rattle.demi_heap.specs.Seen.{HalfValue}
 use Rattle.demi_spec.specs.Reply.{frame, spelling}
 use Rattle.demi_streamq.specs.Sending.{array_bytes}

@@ -1,6 +1,5 @@
-use Rattle.std.proofs.Common.{◌≡◌, ◌≤◌, ◌+◌, ◌++◌, ◌∷◌, [], List, ℕ, Some, ◌∙◌, ap, append-nil, length, refl, subst, sym}
-use Rattle.demi_heap.specs.Seen.{HalfValue, HeapId}
-use Rattle.demi_sga.specs.Arrays.{AreOf}
+use Rattle.std.proofs.Common.{◌≡◌, ◌++◌, ◌∷◌, [], List, ℕ, Some, ◌∙◌, ap, length, refl, subst, sym}
+use Rattle.demi_heap.specs.Seen.{HalfValue}
 use Rattle.demi_streamq.specs.Sending.{array_bytes}
 use Rattle.demi_spec.specs.Input.{Asked}
 use Rattle.demi_spec.specs.Reply.{IsAnswer, frame, spelling}

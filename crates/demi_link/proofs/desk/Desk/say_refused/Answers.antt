@@ -1,7 +1,6 @@
-use Rattle.std.proofs.Common.{◌≡◌, ◌≤◌, ◌+◌, ◌++◌, ◌∷◌, [], List, ℕ, Option, Some, true, ◌∙◌, ap, append-nil, length, refl, subst, sym}
+use Rattle.std.proofs.Common.{◌≡◌, ◌++◌, ◌∷◌, [], List, ℕ, Option, Some, true, ◌∙◌, ap, length, refl, subst, sym}
 use Rattle.std.specs.Prelude.{IfSome}
-use Rattle.demi_heap.specs.Seen.{HalfValue, HeapId}
-use Rattle.demi_sga.specs.Arrays.{AreOf}
+use Rattle.demi_heap.specs.Seen.{HalfValue}
 use Rattle.demi_streamq.specs.Sending.{array_bytes}
 use Rattle.demi_spec.specs.Input.{Asked, Parses, Refused, Refused_end}
 use Rattle.demi_streamq.specs.RxKept.{all_bytes}

@@ -1,10 +1,10 @@
-use Rattle.std.proofs.Common.{◌≡◌, ◌≤◌, ◌-◌, ◌∙◌, ℕ, List, None, Option, Some, ap, arith, length, refl, subst, sym}
+use Rattle.std.proofs.Common.{◌≡◌, ◌-◌, ◌∙◌, ℕ, List, None, Option, Some, ap, arith, length, refl, subst, sym}
 use Rattle.demi_heap.specs.Seen.{HalfValue, HeapId}
 use Rattle.demi_sga.specs.Arrays.{AreOf}
 use Rattle.demi_store.specs.declared.answer.StoreAnswer.{StoreAnswer}
 use Rattle.demi_store.specs.declared.answer.StoreAnswer.TheVariants as said
 use Rattle.demi_streamq.specs.Sending.{array_bytes}
-use Rattle.demi_served.specs.Asking.{answer_with, reply_for}
+use Rattle.demi_served.specs.Asking.{answer_with}
 use Rattle.demi_link.specs.Desks.{desk_of}
 use Rattle.demi_link.specs.Events.{Adds, Event, StoreCame}
 use Rattle.demi_link.specs.Causes.{Caused}

@@ -1,4 +1,4 @@
-use Rattle.std.proofs.Common.{◌≡◌, ◌∙◌, ap, refl, subst, sym}
+use Rattle.std.proofs.Common.{◌∙◌, ap, refl, subst, sym}
 use Rattle.demi_streamq.specs.declared.rx_out.RxOut.{RxOut}
 use Rattle.demi_streamq.specs.declared.rx_out.RxOut.TheVariants.{Piece, End, Fault, Broken, NoSlot, Stopped, Halted}
 use Rattle.demi_link.specs.Desks.{desk_of}
@@ -9,8 +9,8 @@ use Rattle.demi_link.specs.Talks.{TalkValue}
 use Rattle.demi_link.specs.declared.phase.Cause.TheVariants as cause
 use Rattle.demi_link.specs.declared.phase.Phase.{Phase}
 use Rattle.demi_link.specs.declared.phase.Phase.TheVariants.{Over}
-use Rattle.demi_link.proofs.Arriving.{adds_on, arrive, caused_by, caused_since}
-use Rattle.demi_link.proofs.Taken.{noted, placed, taken_fault, taken_hungry, taken_lost}
+use Rattle.demi_link.proofs.Arriving.{adds_on, caused_by, caused_since}
+use Rattle.demi_link.proofs.Taken.{noted, taken_fault, taken_hungry, taken_lost}
 use Rattle.demi_link.proofs.desk.Desk.took.Goals as goal
 
 pub feed-requires : goal.feed-requires

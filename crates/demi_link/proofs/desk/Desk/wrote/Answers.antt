@@ -1,4 +1,4 @@
-use Rattle.std.proofs.Common.{◌≡◌, None, Option, Some, ap, refl, subst, sym}
+use Rattle.std.proofs.Common.{Option, subst, sym}
 use Rattle.demi_streamq.specs.declared.tx_out.TxOut.TheVariants.{Pushed}
 use Rattle.demi_link.specs.Desks.{desk_of}
 use Rattle.demi_link.specs.Events.{TxCame}
