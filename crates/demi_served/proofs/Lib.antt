@@ -7,7 +7,7 @@ mod Places
 mod Comes
 mod Serves
 mod Closes
-mod Stepping
+pub mod Stepping
 mod Beside
 mod Versions
 mod Sessions
@@ -16,7 +16,7 @@ mod AsksAll
 mod Orders
 mod Leaves
 mod OnlyLink
-mod Outcomes
+pub mod Outcomes
 mod ClosedPorts
 mod Flows
 mod Writes

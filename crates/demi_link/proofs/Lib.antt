@@ -1,0 +1,13 @@
+pub mod Arriving
+pub mod Asks
+pub mod Backs
+pub mod Bodies
+pub mod Ended
+pub mod Found
+pub mod Frames
+pub mod Lists
+pub mod Pushes
+pub mod Sides
+pub mod Taken
+pub mod Tells
+pub mod Written

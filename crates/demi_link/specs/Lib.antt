@@ -1,0 +1,12 @@
+pub mod Beside
+pub mod Causes
+pub mod Desks
+pub mod Ends
+pub mod Events
+pub mod Fitting
+pub mod Giving
+pub mod Linked
+pub mod Noting
+pub mod Sights
+pub mod Stores
+pub mod Talks
