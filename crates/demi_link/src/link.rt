@@ -143,3 +143,27 @@ impl<C: Calls> Coroutine<C> for Link {
 
     ghost fits_on = { λ k n a b f g other. fits_beside (C.sight a k.desk.link) (C.sight b k.desk.link) k.desk (C.goes_beside n a b g k.desk.link other) (C.ports a) (C.ports b) k.phase (C.goes_ports n a b g) f };
 }
+
+#[cfg(test)]
+mod tests {
+    use super::*;
+
+    #[test]
+    fn a_new_link_reads_first(rt: HostRuntime) {
+        let Ok(link) = Link::make(rt.alloc(), 3, 1) else {
+            panic!(rt; "no memory");
+        };
+        let Link {
+            desk,
+            polls,
+            phase,
+            last: _,
+        } = link;
+        assert_eq!(rt; desk.link, 3);
+        assert_eq!(rt; desk.worker, 1);
+        assert_eq!(rt; polls, 0);
+        let Phase::Reading = phase else {
+            unreachable!()
+        };
+    }
+}
