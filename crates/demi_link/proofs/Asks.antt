@@ -83,7 +83,7 @@ asked_next ports a d half op place token f lt =
       worker = worker_asked w d.link d.talk.kept.drawn q op place token.token.0 f.worker k.own asks;
       keeps = record {
         own = (link_asked a.base w d.link (record d.talk.kept { replies = [] }) q op place token.token.0 (bare a d k)).own;
-        kept = λ t. link_asked a.base w d.link d.talk.kept q op place token.token.0 (k.kept t);
+        kept = link_asked a.base w d.link d.talk.kept q op place token.token.0 k.kept;
         fits = k.fits;
         number = k.number;
         index = ap (λ (n : ℕ). n + 1) k.index ∙ sym longer;
@@ -129,7 +129,7 @@ plain_next ports s b d kind count behind sga sequence z h is_behind none fits nu
         record {
           worker = refl;
           drawn = subst (λ (n : ℕ). IsDrawn (a.draws ++ draw_of d ∷ []) n goal_draw) (sym at) (last_drawn a.draws (draw_of d) goal_draw (ap (λ (n : ℕ). record { link = d.link; index = n; request = q }) (sym even)));
-          replied = λ t. plain_replied (record a { draws = a.draws ++ draw_of d ∷ []; out = a.out + count }) d.link (length d.talk.kept.replies) q (talk_plain d.talk sequence).reply (ap (λ (n : ℕ). ask_of d.link n q) even ∙ none) refl;
+          replied = plain_replied (record a { draws = a.draws ++ draw_of d ∷ []; out = a.out + count }) d.link (length d.talk.kept.replies) q (talk_plain d.talk sequence).reply (ap (λ (n : ℕ). ask_of d.link n q) even ∙ none) refl;
         },
         subst (λ (x : HeapId). AreOf x sga) heap_is heap,
         spelled,
@@ -138,7 +138,7 @@ plain_next ports s b d kind count behind sga sequence z h is_behind none fits nu
       worker = worker_drawn w d.link d.talk.kept.drawn q f.worker k.own;
       keeps = record {
         own = (link_drawn a.base w d.link (record d.talk.kept { replies = [] }) q (bare a d k)).own;
-        kept = λ t. link_drawn a.base w d.link d.talk.kept q (k.kept t);
+        kept = link_drawn a.base w d.link d.talk.kept q k.kept;
         fits = k.fits;
         number = k.number;
         index = ap (λ (n : ℕ). n + 1) k.index ∙ sym longer;

@@ -16,7 +16,7 @@ use Rattle.demi_store.specs.declared.told.StoreTold.{StoreTold}
 use Rattle.demi_streamq.specs.Sending.{array_bytes}
 use Rattle.demi_served.specs.Asking.{reply_for}
 use Rattle.demi_served.specs.Keeps.{IsReplied, WorkerKeeps}
-use Rattle.demi_served.proofs.Outcomes.{outcome_said}
+use Rattle.demi_served.proofs.Outcomes.{outcome_told}
 use Rattle.demi_served.proofs.Stepping.{link_answered, link_handed, worker_handed}
 use Rattle.demi_link.specs.Fitting.{Fits, IsSent, Keeps, Told, answer_as, body_of, reply_as, with_reply}
 use Rattle.demi_link.specs.Giving.{Says, segments_of, where_bytes}
@@ -76,7 +76,7 @@ module _ (ports : ℕ) (s : Sight) (d : DeskValue) (sequence : ℕ) (half : Opti
   pub keeps_told : (n : ℕ) → Keeps (there n) d
   keeps_told n = let k = t.fits.keeps in record {
     own = k.own;
-    kept = λ told. link_handed t.before.base (worker_of t.before) d.link d.talk.kept known (k.kept told) t.redeems.grows;
+    kept = link_handed t.before.base (worker_of t.before) d.link d.talk.kept known k.kept t.redeems.grows;
     fits = k.fits;
     number = k.number;
     index = k.index;
@@ -128,9 +128,9 @@ module _ (ports : ℕ) (s : Sight) (d : DeskValue) (sequence : ℕ) (half : Opti
           record {
             worker = refl;
             drawn = p.drawn;
-            replied = λ told. subst (IsReplied t.before.base (worker_of (there n)) d.talk.request (reply_as d.talk.kept.worker draft)) (sym p.asks)
+            replied = subst (IsReplied t.before.base (worker_of (there n)) d.talk.request (reply_as d.talk.kept.worker draft)) (sym p.asks)
                 (link_answered t.before.base (worker_of t.before) known d.talk.request (reply_as d.talk.kept.worker draft) pending_ask p.place t.token.token.0 t.place p.here refl t.redeems.own
-                (outcome_said t.before.base known.heard known.told t.place out (answer_as out.answer (array_bytes (body_of body))) told t.redeems.admitted replies) t.redeems.below);
+                (outcome_told t.before.base known.heard known.told t.place out (answer_as out.answer (array_bytes (body_of body))) t.redeems.admitted replies) t.redeems.below);
           },
           heap,
           few,

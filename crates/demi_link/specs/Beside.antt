@@ -24,7 +24,7 @@ module _ (a b : Sight) (d : DeskValue) (g : LeavesBe d.link a b) where
   pub keeps_beside : Keeps a d → Keeps b d
   keeps_beside k = record {
     own = (link_beside a.base (worker_of a) (worker_of b) d.link (record d.talk.kept { replies = [] }) (record { own = k.own; replied = tt }) g.worker).own;
-    kept = λ t. subst (λ (base : StoreBasis). LinkKeeps base (worker_of b) d.link d.talk.kept) (sym g.base) (link_beside a.base (worker_of a) (worker_of b) d.link d.talk.kept (k.kept (ap (λ (x : StoreBasis). x.told) (sym g.base) ∙ t)) g.worker);
+    kept = subst (λ (base : StoreBasis). LinkKeeps base (worker_of b) d.link d.talk.kept) (sym g.base) (link_beside a.base (worker_of a) (worker_of b) d.link d.talk.kept k.kept g.worker);
     fits = k.fits;
     number = (k.number.0 ∙ sym g.number, k.number.1 ∙ sym g.number, subst_le g.number k.number.2);
     index = k.index;
@@ -58,8 +58,8 @@ module _ (a b : Sight) (d : DeskValue) (g : LeavesBe d.link a b) where
   ready_beside r = record {
     worker = r.worker;
     drawn = link_holds_draw (worker_of a) (worker_of b) d.link d.talk.reply.sequence _ g.worker r.drawn;
-    replied = λ t. subst (λ (base : StoreBasis). IsReplied base (worker_of b) d.talk.request d.talk.reply (ask_of d.link (length d.talk.kept.replies) d.talk.request)) (sym g.base)
-        (link_waits a.base (worker_of a) (worker_of b) d.link d.talk.request d.talk.reply (ask_of d.link (length d.talk.kept.replies) d.talk.request) g.worker (r.replied (ap (λ (x : StoreBasis). x.told) (sym g.base) ∙ t)));
+    replied = subst (λ (base : StoreBasis). IsReplied base (worker_of b) d.talk.request d.talk.reply (ask_of d.link (length d.talk.kept.replies) d.talk.request)) (sym g.base)
+        (link_waits a.base (worker_of a) (worker_of b) d.link d.talk.request d.talk.reply (ask_of d.link (length d.talk.kept.replies) d.talk.request) g.worker r.replied);
   }
 
   popping_beside : (token : ℕ) → IsPopping a d token → IsPopping b d token

@@ -84,10 +84,10 @@ pub record Writes (p : Side TxOp ℕ) (k : TalkValue) : Type 0 where
   pub written : AllByRecursion (IsWritten p) k.written
 
 -- What a link keeps of its worker: its draws, its replies, its two ports, and that its decoder has handed out what it was
--- fed. Its replies are those of the store's law where the log tells its bytes.
+-- fed.
 pub record Keeps (s : Sight) (d : DeskValue) : Type 0 where
   pub own : of_link d.link s.draws ≡ numbered d.link 0 d.talk.kept.drawn
-  pub kept : s.base.told ≡ true → LinkKeeps s.base (worker_of s) d.link d.talk.kept
+  pub kept : LinkKeeps s.base (worker_of s) d.link d.talk.kept
   pub fits : AllByRecursion IsReply d.talk.kept.replies
   pub number : (d.talk.kept.worker ≡ s.number) × (d.worker ≡ s.number) × (s.number ≤ 255)
   pub index : d.index ≡ length d.talk.kept.drawn
@@ -189,7 +189,7 @@ pub record IsPending (s : Sight) (d : DeskValue) (token sequence : ℕ) (half : 
 pub record IsReady (s : Sight) (d : DeskValue) : Type 0 where
   pub worker : d.talk.reply.worker ≡ d.talk.kept.worker
   pub drawn : IsDrawn s.draws d.talk.reply.sequence (record { link = d.link; index = length d.talk.kept.replies; request = d.talk.request })
-  pub replied : s.base.told ≡ true → IsReplied s.base (worker_of s) d.talk.request d.talk.reply (ask_of d.link (length d.talk.kept.replies) d.talk.request)
+  pub replied : IsReplied s.base (worker_of s) d.talk.request d.talk.reply (ask_of d.link (length d.talk.kept.replies) d.talk.request)
 
 -- Each pop but the last, which has this token, came to its outcome.
 pub record IsPopping (s : Sight) (d : DeskValue) (token : ℕ) : Type 0 where

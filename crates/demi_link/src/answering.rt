@@ -58,6 +58,7 @@ impl Desk {
         ensures answers { Answers result.phase result.next }
         ensures cause { Caused (C.events cx.old) (C.events cx.new) self.new.index result.phase }
         ensures seen { C.seen cx.new ≡ C.seen cx.old }
+        ensures begun { C.begun cx.new ≡ C.begun cx.old }
         ensures goes { C.goes self.old.link cx.old cx.new }
     {
         match cx.try_store(self.link, token) {
@@ -88,6 +89,7 @@ impl Desk {
         ensures answers { Answers result.phase result.next }
         ensures cause { (before : List Event) → Adds before (C.events cx.old) (store_came outcome) → Caused before (C.events cx.new) self.new.index result.phase }
         ensures seen { C.seen cx.new ≡ C.seen cx.old }
+        ensures begun { C.begun cx.new ≡ C.begun cx.old }
         ensures goes { C.goes self.old.link cx.old cx.new }
     {
         let StoreOut { answer, back } = outcome;
@@ -143,6 +145,7 @@ impl Desk {
         ensures answers { Answers result.phase result.next }
         ensures cause { Caused (C.events cx.old) (C.events cx.new) self.new.index result.phase }
         ensures seen { C.seen cx.new ≡ C.seen cx.old }
+        ensures begun { C.begun cx.new ≡ C.begun cx.old }
         ensures goes { C.goes self.old.link cx.old cx.new }
     {
         let draft = Draft {
@@ -162,6 +165,7 @@ impl Desk {
         ensures answers { Answers result.phase result.next }
         ensures cause { Caused (C.events cx.old) (C.events cx.new) self.new.index result.phase }
         ensures seen { C.seen cx.new ≡ C.seen cx.old }
+        ensures begun { C.begun cx.new ≡ C.begun cx.old }
         ensures goes { C.goes self.old.link cx.old cx.new }
     {
         let Ok(head) = cx.claim(self.link, Class::Small) else {

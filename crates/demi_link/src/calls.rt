@@ -47,6 +47,7 @@ pub trait Calls: Scanner {
         ensures taken { IfOk result (λ _. (sight self.new link ≡ record (sight self.old link) { out = (sight self.old link).out + 1 }) × (events self.new ≡ events self.old)) }
         ensures err { IfErr result (λ _. (sight self.new link ≡ sight self.old link) × Adds (events self.old) (events self.new) NoSlotFound) }
         ensures seen { Self.seen self.new ≡ Self.seen self.old }
+        ensures begun { Self.begun self.new ≡ Self.begun self.old }
         ensures goes { Self.goes link self.old self.new };
 
     /// One segment of `n` bytes, all 0, in a buffer of the least class that holds them.
@@ -56,6 +57,7 @@ pub trait Calls: Scanner {
         ensures taken { IfOk result (λ _. (sight self.new link ≡ record (sight self.old link) { out = (sight self.old link).out + 1 }) × (events self.new ≡ events self.old)) }
         ensures err { IfErr result (λ _. (sight self.new link ≡ sight self.old link) × Adds (events self.old) (events self.new) NoSlotFound) }
         ensures seen { Self.seen self.new ≡ Self.seen self.old }
+        ensures begun { Self.begun self.new ≡ Self.begun self.old }
         ensures goes { Self.goes link self.old self.new };
 
     /// Frees each segment.
@@ -65,6 +67,7 @@ pub trait Calls: Scanner {
         ensures sight { sight self.new link ≡ record (sight self.old link) { out = (sight self.old link).out - length sga } }
         ensures events { events self.new ≡ events self.old }
         ensures seen { Self.seen self.new ≡ Self.seen self.old }
+        ensures begun { Self.begun self.new ≡ Self.begun self.old }
         ensures goes { Self.goes link self.old self.new };
 
     /// Frees the application half of each segment, also while the device has its half.
@@ -74,6 +77,7 @@ pub trait Calls: Scanner {
         ensures sight { sight self.new link ≡ record (sight self.old link) { out = (sight self.old link).out - length half.segments } }
         ensures events { events self.new ≡ events self.old }
         ensures seen { Self.seen self.new ≡ Self.seen self.old }
+        ensures begun { Self.begun self.new ≡ Self.begun self.old }
         ensures goes { Self.goes link self.old self.new };
 
     /// Halves of all segments, in order.
@@ -84,6 +88,7 @@ pub trait Calls: Scanner {
         ensures sight { sight self.new link ≡ sight self.old link }
         ensures events { events self.new ≡ events self.old }
         ensures seen { Self.seen self.new ≡ Self.seen self.old }
+        ensures begun { Self.begun self.new ≡ Self.begun self.old }
         ensures goes { Self.goes link self.old self.new };
 
     /// Takes the segments back with both of their halves, with the bytes that the device half has.
@@ -95,6 +100,7 @@ pub trait Calls: Scanner {
         ensures sight { sight self.new link ≡ sight self.old link }
         ensures events { events self.new ≡ events self.old }
         ensures seen { Self.seen self.new ≡ Self.seen self.old }
+        ensures begun { Self.begun self.new ≡ Self.begun self.old }
         ensures goes { Self.goes link self.old self.new };
 
     /// Pops at most 4,096 bytes from the link's receiving queue.
@@ -104,6 +110,7 @@ pub trait Calls: Scanner {
         ensures only { IfOk result (λ r. (sight self.new link ≡ record (sight self.old link) { rx = (sight self.new link).rx }) × Adds (events self.old) (events self.new) (Gave r)) }
         ensures err { IfErr result (λ _. (sight self.new link ≡ sight self.old link) × Adds (events self.old) (events self.new) NoTokenFound) }
         ensures seen { Self.seen self.new ≡ Self.seen self.old }
+        ensures begun { Self.begun self.new ≡ Self.begun self.old }
         ensures goes { Self.goes link self.old self.new };
 
     /// What the token's pop came to.
@@ -112,6 +119,7 @@ pub trait Calls: Scanner {
         ensures only { sight self.new link ≡ record (sight self.old link) { rx = (sight self.new link).rx; out = (sight self.old link).out + brought pieces_of result } }
         ensures events { Adds (events self.old) (events self.new) (tried RxCame token result) }
         ensures seen { Self.seen self.new ≡ Self.seen self.old }
+        ensures begun { Self.begun self.new ≡ Self.begun self.old }
         ensures goes { Self.goes link self.old self.new };
 
     /// Draws the worker's next sequence number for the link's request, and asks nothing. `None` exactly where there is none
@@ -121,6 +129,7 @@ pub trait Calls: Scanner {
         ensures some { IfSome result (λ n. (n ≡ length (sight self.old link).draws + 1) × (n ≤ 18446744073709551615) × (sight self.new link ≡ record (sight self.old link) { draws = (sight self.old link).draws ++ record { link = link; index = length talk.now.value.kept.drawn; request = talk.now.value.request } ∷ [] }) × (events self.new ≡ events self.old)) }
         ensures none { IfNone result ((sight self.new link ≡ sight self.old link) × Adds (events self.old) (events self.new) NumbersUsedUp × (18446744073709551615 ≤ length (sight self.old link).draws)) }
         ensures seen { Self.seen self.new ≡ Self.seen self.old }
+        ensures begun { Self.begun self.new ≡ Self.begun self.old }
         ensures goes { Self.goes link self.old self.new };
 
     /// Asks the store, with the worker's next sequence number, which it says. Where it is refused no number is drawn, and the
@@ -136,6 +145,7 @@ pub trait Calls: Scanner {
         ensures only { IfOk result (λ r. (sight self.new link ≡ record (sight self.old link) { store = (sight self.new link).store; draws = (sight self.old link).draws ++ record { link = link; index = length talk.now.value.kept.drawn; request = talk.now.value.request } ∷ []; out = (sight self.old link).out - halves_in op }) × Adds (events self.old) (events self.new) (Gave r.0)) }
         ensures err { IfErr result (λ o. (o ≡ op) × (sight self.new link ≡ sight self.old link) × Adds (events self.old) (events self.new) NoTokenFound) }
         ensures seen { Self.seen self.new ≡ Self.seen self.old }
+        ensures begun { Self.begun self.new ≡ Self.begun self.old }
         ensures goes { Self.goes link self.old self.new };
 
     /// What the token's operation of the store came to.
@@ -144,6 +154,7 @@ pub trait Calls: Scanner {
         ensures only { sight self.new link ≡ record (sight self.old link) { store = (sight self.new link).store; out = (sight self.old link).out + brought halves_back result } }
         ensures events { Adds (events self.old) (events self.new) (tried store_came token result) }
         ensures seen { Self.seen self.new ≡ Self.seen self.old }
+        ensures begun { Self.begun self.new ≡ Self.begun self.old }
         ensures goes { Self.goes link self.old self.new };
 
     /// Lends the array and pushes it on the link's sending queue. Where it is refused, the array comes back with its bytes.
@@ -155,6 +166,7 @@ pub trait Calls: Scanner {
         ensures only { IfOk result (λ r. (sight self.new link ≡ record (sight self.old link) { tx = (sight self.new link).tx }) × Adds (events self.old) (events self.new) (Gave r.0)) }
         ensures err { IfErr result (λ a. (a ≡ sga) × (sight self.new link ≡ sight self.old link) × Adds (events self.old) (events self.new) NoTokenFound) }
         ensures seen { Self.seen self.new ≡ Self.seen self.old }
+        ensures begun { Self.begun self.new ≡ Self.begun self.old }
         ensures goes { Self.goes link self.old self.new };
 
     /// What the token's push came to.
@@ -163,6 +175,7 @@ pub trait Calls: Scanner {
         ensures only { sight self.new link ≡ record (sight self.old link) { tx = (sight self.new link).tx } }
         ensures events { Adds (events self.old) (events self.new) (tried TxCame token result) }
         ensures seen { Self.seen self.new ≡ Self.seen self.old }
+        ensures begun { Self.begun self.new ≡ Self.begun self.old }
         ensures goes { Self.goes link self.old self.new };
 
     // What is done by one name leaves be what the links of other names have.

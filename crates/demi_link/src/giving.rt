@@ -28,6 +28,7 @@ pub(crate) fn taken_back<C: Calls>(
     ensures sight { C.sight cx.new link ≡ C.sight cx.old link }
     ensures events { C.events cx.new ≡ C.events cx.old }
     ensures seen { C.seen cx.new ≡ C.seen cx.old }
+    ensures begun { C.begun cx.new ≡ C.begun cx.old }
     ensures goes { C.goes link cx.old cx.new }
 {
     match back {
@@ -54,6 +55,7 @@ pub(crate) fn let_go<C: Calls>(link: u16, body: Option<AppSga>, cx: &mut C)
     ensures sight { C.sight cx.new link ≡ record (C.sight cx.old link) { out = (C.sight cx.old link).out - length (body_of body) } }
     ensures events { C.events cx.new ≡ C.events cx.old }
     ensures seen { C.seen cx.new ≡ C.seen cx.old }
+    ensures begun { C.begun cx.new ≡ C.begun cx.old }
     ensures goes { C.goes link cx.old cx.new }
 {
     if let Some(sga) = body {
@@ -69,6 +71,7 @@ pub(crate) fn with_bytes<C: Calls>(link: u16, body: Option<AppSga>, cx: &mut C) 
     ensures sight { C.sight cx.new link ≡ record (C.sight cx.old link) { out = length (body_of (where_bytes body)) } }
     ensures events { C.events cx.new ≡ C.events cx.old }
     ensures seen { C.seen cx.new ≡ C.seen cx.old }
+    ensures begun { C.begun cx.new ≡ C.begun cx.old }
     ensures goes { C.goes link cx.old cx.new }
 {
     let Some(sga) = body else {

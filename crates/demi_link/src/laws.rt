@@ -35,7 +35,7 @@ pub fn a_new_link_fits()
 /// What a link keeps, at its end too: its draws are its own, and its replies are those of its requests.
 pub fn a_link_keeps_its_replies()
     ensures own { (ports : ℕ) (s : Sight) (d : DeskValue) (phase : Phase) → Fits ports s d phase → of_link d.link s.draws ≡ numbered d.link 0 d.talk.kept.drawn }
-    ensures kept { (ports : ℕ) (s : Sight) (d : DeskValue) (phase : Phase) → Fits ports s d phase → s.base.told ≡ true → LinkKeeps s.base (worker_of s) d.link d.talk.kept }
+    ensures kept { (ports : ℕ) (s : Sight) (d : DeskValue) (phase : Phase) → Fits ports s d phase → LinkKeeps s.base (worker_of s) d.link d.talk.kept }
     ensures fits { (ports : ℕ) (s : Sight) (d : DeskValue) (phase : Phase) → Fits ports s d phase → AllByRecursion IsReply d.talk.kept.replies }
     ensures pushed { (ports : ℕ) (s : Sight) (d : DeskValue) (phase : Phase) → Fits ports s d phase → PushesEach (ops_of s.tx.submitted) d.talk.kept.replies }
 {}

@@ -105,7 +105,8 @@ impl<C: Calls> Coroutine<C> for Link {
     ghost use Rattle.demi_link.specs.Beside.{fits_beside};
     ghost use Rattle.demi_link.specs.Causes.{Answers, Caused};
     ghost use Rattle.demi_link.specs.Fitting.{Fits, HasEnded};
-    ghost use Rattle.demi_sched.specs.Waiting.{AreNamed, CountsUp};
+    ghost use Rattle.demi_sched.specs.Scanning.{CountsUp};
+    ghost use Rattle.demi_sched.specs.Waiting.{AreNamed};
 
     ghost name = { λ k. k.desk.link };
 
@@ -121,6 +122,7 @@ impl<C: Calls> Coroutine<C> for Link {
     fn poll(&mut self, cx: &mut C) -> Next
         requires { Fits (C.ports cx.old) (C.sight cx.old self.old.desk.link) self.old.desk self.old.phase }
         ensures seen { C.seen cx.new ≡ C.seen cx.old }
+        ensures begun { C.begun cx.new ≡ C.begun cx.old }
         ensures name { self.new.desk.link ≡ self.old.desk.link }
         ensures polls { CountsUp self.old.polls self.new.polls }
         ensures last { self.new.last ≡ result }

@@ -28,6 +28,7 @@ impl Desk {
         ensures answers { Answers result.phase result.next }
         ensures cause { Caused (C.events cx.old) (C.events cx.new) self.new.index result.phase }
         ensures seen { C.seen cx.new ≡ C.seen cx.old }
+        ensures begun { C.begun cx.new ≡ C.begun cx.old }
         ensures goes { C.goes self.old.link cx.old cx.new }
     {
         match cx.claim(self.link, Class::Small) {
@@ -44,6 +45,7 @@ impl Desk {
         ensures answers { Answers result.phase result.next }
         ensures cause { Caused (C.events cx.old) (C.events cx.new) self.new.index result.phase }
         ensures seen { C.seen cx.new ≡ C.seen cx.old }
+        ensures begun { C.begun cx.new ≡ C.begun cx.old }
         ensures goes { C.goes self.old.link cx.old cx.new }
     {
         match cx.draw(self.link, &self.talk) {
@@ -68,6 +70,7 @@ impl Desk {
         ensures answers { Answers result.phase result.next }
         ensures cause { Caused (C.events cx.old) (C.events cx.new) self.new.index result.phase }
         ensures seen { C.seen cx.new ≡ C.seen cx.old }
+        ensures begun { C.begun cx.new ≡ C.begun cx.old }
         ensures goes { C.goes self.old.link cx.old cx.new }
     {
         match cx.claim(self.link, Class::Small) {
@@ -84,6 +87,7 @@ impl Desk {
         ensures answers { Answers result.phase result.next }
         ensures cause { Caused (C.events cx.old) (C.events cx.new) self.new.index result.phase }
         ensures seen { C.seen cx.new ≡ C.seen cx.old }
+        ensures begun { C.begun cx.new ≡ C.begun cx.old }
         ensures goes { C.goes self.old.link cx.old cx.new }
     {
         match cx.claim(self.link, Class::Small) {
@@ -103,6 +107,7 @@ impl Desk {
         ensures answers { Answers result.phase result.next }
         ensures cause { Caused (C.events cx.old) (C.events cx.new) self.new.index result.phase }
         ensures seen { C.seen cx.new ≡ C.seen cx.old }
+        ensures begun { C.begun cx.new ≡ C.begun cx.old }
         ensures goes { C.goes self.old.link cx.old cx.new }
     {
         match cx.draw(self.link, &self.talk) {

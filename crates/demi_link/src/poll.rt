@@ -21,6 +21,7 @@ impl Desk {
         ensures answers { Answers result.phase result.next }
         ensures cause { (HasEnded phase × (result.phase ≡ phase)) ⊎ Caused (C.events cx.old) (C.events cx.new) self.new.index result.phase }
         ensures seen { C.seen cx.new ≡ C.seen cx.old }
+        ensures begun { C.begun cx.new ≡ C.begun cx.old }
         ensures goes { C.goes self.old.link cx.old cx.new }
     {
         match phase {

@@ -29,6 +29,7 @@ impl Desk {
         ensures answers { Answers result.phase result.next }
         ensures cause { Caused (C.events cx.old) (C.events cx.new) self.new.index result.phase }
         ensures seen { C.seen cx.new ≡ C.seen cx.old }
+        ensures begun { C.begun cx.new ≡ C.begun cx.old }
         ensures goes { C.goes self.old.link cx.old cx.new }
     {
         if self.index >= u32::MAX {
@@ -63,6 +64,7 @@ impl Desk {
         ensures answers { Answers result.phase result.next }
         ensures cause { Caused (C.events cx.old) (C.events cx.new) self.new.index result.phase }
         ensures seen { C.seen cx.new ≡ C.seen cx.old }
+        ensures begun { C.begun cx.new ≡ C.begun cx.old }
         ensures goes { C.goes self.old.link cx.old cx.new }
     {
         match cx.pop(self.link) {
@@ -79,6 +81,7 @@ impl Desk {
         ensures answers { Answers result.phase result.next }
         ensures cause { Caused (C.events cx.old) (C.events cx.new) self.new.index result.phase }
         ensures seen { C.seen cx.new ≡ C.seen cx.old }
+        ensures begun { C.begun cx.new ≡ C.begun cx.old }
         ensures goes { C.goes self.old.link cx.old cx.new }
     {
         match cx.try_rx(self.link, token) {
@@ -97,6 +100,7 @@ impl Desk {
         ensures answers { Answers result.phase result.next }
         ensures cause { (before : List Event) → Adds before (C.events cx.old) (RxCame outcome) → Caused before (C.events cx.new) self.new.index result.phase }
         ensures seen { C.seen cx.new ≡ C.seen cx.old }
+        ensures begun { C.begun cx.new ≡ C.begun cx.old }
         ensures goes { C.goes self.old.link cx.old cx.new }
     {
         let placed = one_placed(&self.talk, place);
@@ -120,6 +124,7 @@ impl Desk {
         ensures answers { Answers result.phase result.next }
         ensures cause { Caused (C.events cx.old) (C.events cx.new) self.new.index result.phase }
         ensures seen { C.seen cx.new ≡ C.seen cx.old }
+        ensures begun { C.begun cx.new ≡ C.begun cx.old }
         ensures goes { C.goes self.old.link cx.old cx.new }
     {
         self.decoder.feed(buf.bytes());
@@ -135,6 +140,7 @@ impl Desk {
         ensures answers { Answers result.phase result.next }
         ensures cause { (before : List Event) → Adds before (C.events cx.old) (RxCame at_end) → Caused before (C.events cx.new) self.new.index result.phase }
         ensures seen { C.seen cx.new ≡ C.seen cx.old }
+        ensures begun { C.begun cx.new ≡ C.begun cx.old }
         ensures goes { C.goes self.old.link cx.old cx.new }
     {
         match self.decoder.finish() {

@@ -28,6 +28,7 @@ impl Desk {
         ensures answers { Answers result.phase result.next }
         ensures cause { Caused (C.events cx.old) (C.events cx.new) self.new.index result.phase }
         ensures seen { C.seen cx.new ≡ C.seen cx.old }
+        ensures begun { C.begun cx.new ≡ C.begun cx.old }
         ensures goes { C.goes self.old.link cx.old cx.new }
     {
         match cx.push(self.link, sga) {
@@ -53,6 +54,7 @@ impl Desk {
         ensures answers { Answers result.phase result.next }
         ensures cause { Caused (C.events cx.old) (C.events cx.new) self.new.index result.phase }
         ensures seen { C.seen cx.new ≡ C.seen cx.old }
+        ensures begun { C.begun cx.new ≡ C.begun cx.old }
         ensures goes { C.goes self.old.link cx.old cx.new }
     {
         match cx.try_tx(self.link, token) {
@@ -77,6 +79,7 @@ impl Desk {
         ensures answers { Answers result.phase result.next }
         ensures cause { (before : List Event) → Adds before (C.events cx.old) (TxCame outcome) → Caused before (C.events cx.new) self.new.index result.phase }
         ensures seen { C.seen cx.new ≡ C.seen cx.old }
+        ensures begun { C.begun cx.new ≡ C.begun cx.old }
         ensures goes { C.goes self.old.link cx.old cx.new }
     {
         match outcome {
@@ -98,6 +101,7 @@ impl Desk {
         ensures answers { Answers result.phase result.next }
         ensures cause { (before : List Event) → Adds before (C.events cx.old) (TxCame pushed) → Caused before (C.events cx.new) self.new.index result.phase }
         ensures seen { C.seen cx.new ≡ C.seen cx.old }
+        ensures begun { C.begun cx.new ≡ C.begun cx.old }
         ensures goes { C.goes self.old.link cx.old cx.new }
     {
         self.talk = one_written(&self.talk, place);
