@@ -1,0 +1,8 @@
+pub mod Columns
+pub mod Returned
+mod Untouched
+mod Dealt
+mod SamePorts
+mod MadePairs
+mod Ended
+mod NewWhole
