@@ -11,3 +11,4 @@ pub mod Tries
 pub mod Several
 pub mod Together
 pub mod Notes
+pub mod Owing
