@@ -6,3 +6,4 @@ mod SamePorts
 mod MadePairs
 mod Ended
 mod NewWhole
+pub mod Outstanding

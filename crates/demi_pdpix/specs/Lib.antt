@@ -12,3 +12,4 @@ pub mod Several
 pub mod Together
 pub mod Notes
 pub mod Owing
+pub mod InTests

@@ -1,5 +1,5 @@
 -- What of a caller is outstanding at each port.
-use Rattle.std.specs.Prelude.{◌≡◌, ℕ, ◌+◌, ◌<◌, ◌==◌, Bool, true, false, cond, List, [], ◌∷◌, length, slice_index_or}
+use Rattle.std.specs.Prelude.{◌≡◌, ℕ, zero, suc, ◌+◌, ◌<◌, ◌==◌, Bool, true, false, cond, List, [], ◌∷◌, length, slice_index_or}
 use Rattle.demi_port_core.specs.declared.place.QToken.{QToken}
 use Rattle.demi_port.specs.Seen.{PassValue}
 use Rattle.demi_pdpix.specs.declared.kind.PortKind.{PortKind}
@@ -19,12 +19,18 @@ same_kind kind other = false
 
 -- one more at this port than f says
 abbrev pub one_more_at : PortKind → (PortKind → ℕ) → PortKind → ℕ
-one_more_at here f kind = cond (same_kind here kind) 1 0 + f kind
+one_more_at here f kind = cond (same_kind here kind) (f kind + 1) (f kind)
 
 -- how many of these tokens are of the port of this kind
 abbrev pub due_at : {B : Type 0} → DemiId B → List QToken → PortKind → ℕ
 due_at d [] kind = 0
 due_at d (t ∷ ts) kind = one_more_at (kind_of d t.port) (due_at d ts) kind
+
+-- the tokens but for the one of this index
+abbrev pub without_at : ℕ → List QToken → List QToken
+without_at i [] = []
+without_at zero (t ∷ ts) = ts
+without_at (suc i) (t ∷ ts) = t ∷ without_at i ts
 
 -- the pass has the number n, and submitted so many operations more than it redeemed
 abbrev pub IsDue : {D T B : Type 0} → ℕ → ℕ → PassValue D T B → Type 0
