@@ -6,3 +6,5 @@ mod SamePorts
 mod MadePairs
 mod Ended
 mod NewWhole
+mod Given
+mod Learning
