@@ -8,3 +8,4 @@ mod Ended
 mod NewWhole
 mod Given
 mod Learning
+mod Tried
