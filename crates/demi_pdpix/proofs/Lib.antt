@@ -9,3 +9,4 @@ mod NewWhole
 mod Given
 mod Learning
 mod Tried
+mod StillBusy
