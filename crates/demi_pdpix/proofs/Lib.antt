@@ -7,3 +7,7 @@ mod MadePairs
 mod Ended
 mod NewWhole
 pub mod Outstanding
+mod Given
+mod Learning
+mod Tried
+mod StillBusy
