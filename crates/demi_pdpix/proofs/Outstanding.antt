@@ -191,7 +191,7 @@ tx_redeemed n m token place p q (Log o) h due = absurd h
 tx_redeemed n m token place p q (Rx o) h due = absurd h
 tx_redeemed n m token place p q (Tx o) h due = redeemed_due (λ h t k. TxAdmits h t k o) n m token place.0 p q h due
 
-is_unknown : {L P O S T B : Type 0} → Answer L P O S T B → Type 0
+abbrev is_unknown : {L P O S T B : Type 0} → Answer L P O S T B → Type 0
 is_unknown (Ready p o) = ⊥
 is_unknown NotYet = ⊥
 is_unknown Spent = ⊥
@@ -293,9 +293,11 @@ new_owes d n c new = (
     rx = new_at n c.rx d.rx new.rx;
     tx = new_at n c.tx d.tx new.tx;
   },
-  new_due n c.memory d.memory new.memory,
-  new_due n c.service d.service new.service,
-  (λ p low. new_due_at n c.journal d.journal new.journal 0 p low),
-  new_due_at n c.rx d.rx new.rx,
-  new_due_at n c.tx d.tx new.tx,
+  (
+    new_due n c.memory d.memory new.memory,
+    new_due n c.service d.service new.service,
+    (λ p low. new_due_at n c.journal d.journal new.journal 0 p low),
+    new_due_at n c.rx d.rx new.rx,
+    new_due_at n c.tx d.tx new.tx,
+  ),
 )
