@@ -10,3 +10,4 @@ mod Given
 mod Learning
 mod Tried
 mod StillBusy
+mod AllCame
