@@ -10,6 +10,7 @@ use Rattle.demi_pdpix.specs.Lanes.{IsEndOf, LaneValue, port_of, with_home}
 use Rattle.demi_pdpix.specs.Returning.{HasReturned}
 use Rattle.demi_pdpix.specs.Seen.{AreAt, CallerValue, LogPair, Pair, RxPair, TxPair, heap_of}
 use Rattle.demi_pdpix.proofs.Columns.{same_there}
+use Rattle.demi_pdpix.proofs.Untouched.{no_items}
 use Rattle.demi_pdpix.proofs.Returned.{fewer, next_at, some_pass, total_map}
 
 pub one_end : {D T B : Type 0} (ls : List (LaneValue D T B)) (ss : List (Pair D T B)) (es : List (EndValue D T B)) (l : LaneValue D T B) (s : Pair D T B) (e : EndValue D T B)
@@ -169,3 +170,12 @@ many_passes callers memory service journal rx tx =
     let b = length-append (map heap_of callers ++ memory ∷ service ∷ map beside journal) (map beside rx) in
     let c = length-append (map heap_of callers) (memory ∷ service ∷ map beside journal) in
     let d = map_len heap_of callers in let e = map_len beside journal in let f = map_len beside rx in let g = map_len beside tx in omega (arith, a, b, c, d, e, f, g)
+
+-- the one lane that there is, and its seat
+pub ready_only : {D T B : Type 0} (lanes left : List (LaneValue D T B)) (l : LaneValue D T B) (seats : List (Pair D T B)) (s : Pair D T B)
+    → AreReady lanes seats → seats ≡ s ∷ [] → length seats ≡ length lanes → lanes ≡ left ++ l ∷ [] → IsReady l s.0
+ready_only lanes left l seats s ready one many is =
+    let a = ap length one in let b = ap length is in let c = length-append left (l ∷ []) in
+    let none : left ≡ [] = no_items left (omega (arith, a, b, c, many)) in
+    subst (λ ss. IsReady l (get_or ss 0 s).0) one
+    (subst (λ m. IsReady m (get_or seats 0 s).0) (ap (λ ls. get_or ls 0 l) (is ∙ ap (λ ls. ls ++ l ∷ []) none)) (ready 0 l s (omega (arith, b, c))))

@@ -6,6 +6,7 @@ mod SamePorts
 mod MadePairs
 mod Ended
 mod NewWhole
+pub mod Outstanding
 mod Given
 mod Learning
 mod Tried

@@ -1,5 +1,5 @@
 -- New ports whose passes were dealt are those of a whole.
-use Rattle.std.proofs.Common.{◌≡◌, ℕ, ◌+◌, ◌<◌, ◌≤◌, List, [], All, length, map, get_or, ap, sym, subst, ◌∙◌, arith}
+use Rattle.std.proofs.Common.{◌≡◌, ℕ, ◌+◌, ◌<◌, ◌≤◌, List, [], ◌∷◌, suc, refl, All, length, map, get_or, ap, sym, subst, ◌∙◌, arith}
 use Rattle.demi_heap.specs.Seen.{HeapId}
 use Rattle.demi_heap.specs.Seen.{new_pass}
 use Rattle.demi_logq.specs.Answers.{LogBasis}
@@ -78,3 +78,20 @@ seats_of h base tokens callers ls now ss ps are same seats new =
 pub seat_one : {D T B : Type 0} (h : HeapId) (base : B) (tokens callers : ℕ) (l m : LaneValue D T B) (s : DeviceValue D T B) (p : Pair D T B) → IsNewLane base tokens callers l s → outline m ≡ outline l → p.0 ≡ s → p.1 ≡ new_pass h → IsNewPair h callers m.port p
 seat_one h base tokens callers l m s p is same seat new =
     (subst (λ x. IsNewSeat x callers p.0) (sym (ap (λ (x : LaneValue _ _ _). x.port) same)) (subst (IsNewSeat l.port callers) (sym seat) is.4), new)
+
+pub new_left : {L P O S T B : Type 0} (heap : HeapId) (b : B) (log : LogBasis) (tokens callers : ℕ) (p : Ports L P O S T B) (s : PortSeats L P O S T B) → AreNewPorts heap b log tokens callers p s → HaveLeft callers p
+new_left heap b log tokens callers p s new = record {
+  memory = new.memory.3;
+  service = new.service.3;
+  journal = λ k d low. (each_fresh (log_on log heap) tokens callers p.journal.items s.journal.items new.journal k d low).left;
+  rx = λ k d low. (each_fresh heap tokens callers p.rx.items s.rx.items new.rx k d low).left;
+  tx = λ k d low. (each_fresh heap tokens callers p.tx.items s.tx.items new.tx k d low).left;
+}
+
+map_wide : {A B : Type 0} (f : A → B) (xs : List A) → length (map f xs) ≡ length xs
+map_wide f [] = refl
+map_wide f (x ∷ xs) = ap suc (map_wide f xs)
+
+-- how many lanes there are, as ports
+pub as_wide : {D T B : Type 0} (n : ℕ) (ls now : List (LaneValue D T B)) → length ls ≡ n → map outline now ≡ map outline ls → length (map port_of now) ≡ n
+as_wide n ls now long same = map_wide port_of now ∙ same_many now ls same ∙ long

@@ -11,3 +11,5 @@ pub mod Tries
 pub mod Several
 pub mod Together
 pub mod Notes
+pub mod Owing
+pub mod InTests

@@ -40,6 +40,7 @@ mod scan;
 mod seats;
 mod seeking;
 mod submitting;
+mod tests;
 mod stop;
 mod trying;
 mod waiting;

@@ -26,37 +26,37 @@ loop-caller-init g c = (
 
 -- what is known of the caller that comes next
 pub return_each-requires-clause-as_many : goal.return_each-requires-clause-as_many
-return_each-requires-clause-as_many g c κs within = let v = c.loop-caller.invariant.1 in
+return_each-requires-clause-as_many g c κs = let v = c.loop-caller.invariant.1 in
     ap (λ (z : CallerValue _ _ _). length z.journal) c.caller.view_is
     ∙ (of_next (IsAsWide _ _ _) c.args.callers.items c.loop-caller.invariant.0 c.loop-caller.callers.items c.pop.new.self.items c.in-Some.caller c.requires.as_many v.all c.in-Some.ensures.items).journal
     ∙ sym v.journals
 
 pub return_each-requires-clause-room : goal.return_each-requires-clause-room
-return_each-requires-clause-room g c κs within = let v = c.loop-caller.invariant.1 in let gone = c.loop-caller.invariant.0 in
+return_each-requires-clause-room g c κs = let v = c.loop-caller.invariant.1 in let gone = c.loop-caller.invariant.0 in
     room_left journal_at c.args.ports.now.journal.items c.loop-caller.ports.journal.items gone (length c.args.callers.items) v.journal v.journals
     (fewer c.args.callers.items gone c.loop-caller.callers.items c.pop.new.self.items c.in-Some.caller v.all c.in-Some.ensures.items)
     c.requires.journal
 
-pub return_each-requires-clause-as_many-2 : goal.return_each-requires-clause-as_many-2
-return_each-requires-clause-as_many-2 g c κs within = let v = c.loop-caller.invariant.1 in
+pub return_each-requires-in-Some-clause-as_many : goal.return_each-requires-in-Some-clause-as_many
+return_each-requires-in-Some-clause-as_many g c κs = let v = c.loop-caller.invariant.1 in
     ap (λ (z : CallerValue _ _ _). length z.rx) c.caller.view_is
     ∙ (of_next (IsAsWide _ _ _) c.args.callers.items c.loop-caller.invariant.0 c.loop-caller.callers.items c.pop.new.self.items c.in-Some.caller c.requires.as_many v.all c.in-Some.ensures.items).rx
     ∙ sym v.receiving
 
-pub return_each-requires-clause-room-2 : goal.return_each-requires-clause-room-2
-return_each-requires-clause-room-2 g c κs within = let v = c.loop-caller.invariant.1 in let gone = c.loop-caller.invariant.0 in
+pub return_each-requires-in-Some-clause-room : goal.return_each-requires-in-Some-clause-room
+return_each-requires-in-Some-clause-room g c κs = let v = c.loop-caller.invariant.1 in let gone = c.loop-caller.invariant.0 in
     room_left rx_at c.args.ports.now.rx.items c.loop-caller.ports.rx.items gone (length c.args.callers.items) v.rx v.receiving
     (fewer c.args.callers.items gone c.loop-caller.callers.items c.pop.new.self.items c.in-Some.caller v.all c.in-Some.ensures.items)
     c.requires.rx
 
-pub return_each-requires-clause-as_many-3 : goal.return_each-requires-clause-as_many-3
-return_each-requires-clause-as_many-3 g c κs within = let v = c.loop-caller.invariant.1 in
+pub return_each-requires-in-Some-2-clause-as_many : goal.return_each-requires-in-Some-2-clause-as_many
+return_each-requires-in-Some-2-clause-as_many g c κs = let v = c.loop-caller.invariant.1 in
     ap (λ (z : CallerValue _ _ _). length z.tx) c.caller.view_is
     ∙ (of_next (IsAsWide _ _ _) c.args.callers.items c.loop-caller.invariant.0 c.loop-caller.callers.items c.pop.new.self.items c.in-Some.caller c.requires.as_many v.all c.in-Some.ensures.items).tx
     ∙ sym v.sending
 
-pub return_each-requires-clause-room-3 : goal.return_each-requires-clause-room-3
-return_each-requires-clause-room-3 g c κs within = let v = c.loop-caller.invariant.1 in let gone = c.loop-caller.invariant.0 in
+pub return_each-requires-in-Some-2-clause-room : goal.return_each-requires-in-Some-2-clause-room
+return_each-requires-in-Some-2-clause-room g c κs = let v = c.loop-caller.invariant.1 in let gone = c.loop-caller.invariant.0 in
     room_left tx_at c.args.ports.now.tx.items c.loop-caller.ports.tx.items gone (length c.args.callers.items) v.tx v.sending
     (fewer c.args.callers.items gone c.loop-caller.callers.items c.pop.new.self.items c.in-Some.caller v.all c.in-Some.ensures.items)
     c.requires.tx
@@ -73,11 +73,11 @@ loop-caller-preserved g c = let v = c.loop-caller.invariant.1 in let gone = c.lo
     journals = c.return_each.ensures.len ∙ v.journals;
     journal = one_back journal_at old.journal.items now.journal.items c.return_each.new.lanes.items gone x v.journal v.journals
         (λ k l p low. c.return_each.ensures.back k l p low ∙ ap (λ (z : CallerValue _ _ _). with_home (get_or now.journal.items k l) (get_or z.journal k p ∷ [])) is);
-    receiving = c.return_each-2.ensures.len ∙ v.receiving;
-    rx = one_back rx_at old.rx.items now.rx.items c.return_each-2.new.lanes.items gone x v.rx v.receiving
-        (λ k l p low. c.return_each-2.ensures.back k l p low ∙ ap (λ (z : CallerValue _ _ _). with_home (get_or now.rx.items k l) (get_or z.rx k p ∷ [])) is);
-    sending = c.return_each-3.ensures.len ∙ v.sending;
-    tx = one_back tx_at old.tx.items now.tx.items c.return_each-3.new.lanes.items gone x v.tx v.sending
-        (λ k l p low. c.return_each-3.ensures.back k l p low ∙ ap (λ (z : CallerValue _ _ _). with_home (get_or now.tx.items k l) (get_or z.tx k p ∷ [])) is);
+    receiving = c.return_each-in-Some.ensures.len ∙ v.receiving;
+    rx = one_back rx_at old.rx.items now.rx.items c.return_each-in-Some.new.lanes.items gone x v.rx v.receiving
+        (λ k l p low. c.return_each-in-Some.ensures.back k l p low ∙ ap (λ (z : CallerValue _ _ _). with_home (get_or now.rx.items k l) (get_or z.rx k p ∷ [])) is);
+    sending = c.return_each-in-Some-2.ensures.len ∙ v.sending;
+    tx = one_back tx_at old.tx.items now.tx.items c.return_each-in-Some-2.new.lanes.items gone x v.tx v.sending
+        (λ k l p low. c.return_each-in-Some-2.ensures.back k l p low ∙ ap (λ (z : CallerValue _ _ _). with_home (get_or now.tx.items k l) (get_or z.tx k p ∷ [])) is);
   },
 )

@@ -1,0 +1,4 @@
+mod crew;
+mod doubler;
+mod talking;
+mod whole;
