@@ -11,6 +11,7 @@ use Rattle.demi_port_core.specs.declared.place.QToken.{QToken}
 use Rattle.demi_port_core.specs.declared.place.Token.{Token}
 use Rattle.demi_pdpix.specs.Asks.{Asked, to_log, to_receiver, to_sender}
 use Rattle.demi_pdpix.specs.Calls.{Changed, Submits, Submitted, having_lent}
+use Rattle.demi_pdpix.specs.Notes.{Scanned, ScannedAt}
 use Rattle.demi_pdpix.specs.Seen.{CallerValue, LogPass, RxPass, TxPass}
 use Rattle.demi_pdpix.specs.declared.kind.PortKind.{PortKind}
 use Rattle.demi_pdpix.specs.declared.kind.PortKind.TheVariants.{Journal, Receiving, Sending}
@@ -56,3 +57,16 @@ lent_to kind asked x c e heap dev sga token same lends is submits =
     let becomes : record x { heap = heap } ≡ having_lent c (length sga) =
       ap (λ (h : HeapPassValue). record x { heap = h }) lends ∙ ap (λ (z : CallerValue _ _ _). having_lent z (length sga)) same in
     subst (λ (z : CallerValue _ _ _). Submits kind (asked sga) z e token) becomes (subst (λ (s : List HalfValue). Submits kind (asked s) (record x { heap = heap }) e token) is submits)
+
+-- what a scan took, by the kind of the port
+pub scan_of_journal : {D T B : Type 0} (kind : PortKind) (mask bits : List ℕ) (x c : CallerValue D T B) (new : List LogPass) → Journal ≡ kind → x ≡ c → Changed 0 x.journal new (Scanned mask bits) → ScannedAt kind mask bits c (record x { journal = new })
+scan_of_journal kind mask bits x c new is same changed = subst (λ (k : PortKind). ScannedAt k mask bits c (record x { journal = new })) is
+    (ap (λ (z : CallerValue _ _ _). record z { journal = new }) same, subst (λ (z : CallerValue _ _ _). Changed 0 z.journal new (Scanned mask bits)) same changed)
+
+pub scan_of_rx : {D T B : Type 0} (k : ℕ) (kind : PortKind) (mask bits : List ℕ) (x c : CallerValue D T B) (new : List RxPass) → Receiving k ≡ kind → x ≡ c → Changed k x.rx new (Scanned mask bits) → ScannedAt kind mask bits c (record x { rx = new })
+scan_of_rx k kind mask bits x c new is same changed = subst (λ (z : PortKind). ScannedAt z mask bits c (record x { rx = new })) is
+    (ap (λ (z : CallerValue _ _ _). record z { rx = new }) same, subst (λ (z : CallerValue _ _ _). Changed k z.rx new (Scanned mask bits)) same changed)
+
+pub scan_of_tx : {D T B : Type 0} (k : ℕ) (kind : PortKind) (mask bits : List ℕ) (x c : CallerValue D T B) (new : List TxPass) → Sending k ≡ kind → x ≡ c → Changed k x.tx new (Scanned mask bits) → ScannedAt kind mask bits c (record x { tx = new })
+scan_of_tx k kind mask bits x c new is same changed = subst (λ (z : PortKind). ScannedAt z mask bits c (record x { tx = new })) is
+    (ap (λ (z : CallerValue _ _ _). record z { tx = new }) same, subst (λ (z : CallerValue _ _ _). Changed k z.tx new (Scanned mask bits)) same changed)

@@ -11,3 +11,4 @@ mod Given
 mod Learning
 mod Tried
 mod StillBusy
+mod AllCame
