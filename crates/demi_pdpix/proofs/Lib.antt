@@ -13,3 +13,5 @@ mod Tried
 mod StillBusy
 mod AllCame
 pub mod Holding
+pub mod SharedSeats
+pub mod Shareable

@@ -22,7 +22,7 @@ use Rattle.demi_streamq.specs.Receiving.{IsFrom as IsOnHeap, RxAdmits}
 use Rattle.demi_streamq.specs.Sending.{TxAdmits}
 use Rattle.demi_pdpix.specs.Answers.{Redeemed, SawBusy}
 use Rattle.demi_pdpix.specs.Asks.{Asked, bad_qd, bad_size, to_memory, to_log, to_receiver, to_sender}
-use Rattle.demi_pdpix.specs.Calls.{Changed, FindsNone, FoundNone, OnService, Submits, Submitted, SubmittedAt}
+use Rattle.demi_pdpix.specs.Calls.{Changed, FindsNone, FoundNone, OnService, Submits, Submitted, SubmittedAt, having_lent}
 use Rattle.demi_pdpix.specs.Kinds.{kind_of}
 use Rattle.demi_pdpix.specs.Owing.{AreDue, IsDue, IsDueAt, IsFirstDue, Owes, due_at, one_more_at, same_kind, without_at}
 use Rattle.demi_pdpix.specs.Seen.{AreAt, AreNewAt, CallerValue, DemiId, IsNewCaller, IsOf, LogPass, MemPass, RxPass, TxPass}
@@ -314,8 +314,8 @@ module _ {D T B : Type 0} (d : DemiId B) (n : ℕ) (tokens : List QToken) (c e :
   pub owes_same : (kind : PortKind) → FindsNone kind c e → Owes d n tokens c → Owes d n tokens e
   owes_same kind s owes = (of, none_due_at kind n (due_at d tokens) c e s owes.1)
 
-  pub owes_heap : e ≡ record c { heap = e.heap } → Owes d n tokens c → Owes d n tokens e
-  owes_heap only owes = (of, subst (IsDueAt n (due_at d tokens)) (sym only) owes.1)
+  pub owes_heap : (heap : HeapPassValue) → e ≡ record c { heap = heap } → Owes d n tokens c → Owes d n tokens e
+  owes_heap heap only owes = (of, subst (IsDueAt n (due_at d tokens)) (sym only) owes.1)
 
 module _ {L P O S T B : Type 0} (admits : B → List S → List (ℕ × T) → ℕ → O → Type 0) (d : DemiId B) (n : ℕ) (c e : CallerValue S T B) (of : IsOf d e) where
   pub owes_less : (t : QToken) (tokens : List QToken) (place : Place) (r : QResult L P O S T B) → Waited admits d t c e (Ready place r) → Owes d n (t ∷ tokens) c → Owes d n tokens e
@@ -326,3 +326,7 @@ module _ {L P O S T B : Type 0} (admits : B → List S → List (ℕ × T) → �
 
   pub owes_none : (tokens : List QToken) (results : List (Place × QResult L P O S T B)) → AllCame admits d tokens results c e → Owes d n tokens c → Owes d n [] e
   owes_none tokens results came owes = (of, all_came_due admits d tokens [] results n c e came (subst (λ ts. IsDueAt n (due_at d ts) c) (sym (append-nil tokens)) owes.1))
+
+-- a caller that lent an array owes what it owed
+pub owes_lent : {D T B : Type 0} (d : DemiId B) (n : ℕ) (tokens : List QToken) (c : CallerValue D T B) (many : ℕ) → Owes d n tokens c → Owes d n tokens (having_lent c many)
+owes_lent d n tokens c many owes = (record { heap = owes.0.heap; memory = owes.0.memory; service = owes.0.service; journal = owes.0.journal; rx = owes.0.rx; tx = owes.0.tx }, owes.1)

@@ -45,6 +45,9 @@ impl<X: Law> Model for Demi<X> {
         × (d.rx_ends.items ≡ []) × (length d.ports.rx.items ≤ vec_capacity d.rx_ends) × (d.tx_ends.items ≡ []) × (length d.ports.tx.items ≤ vec_capacity d.tx_ends) };
 }
 
+// Through a `&` no call reaches the emptied vectors, in which passes come back at the end.
+unsafe impl<X: Law> Sync for Demi<X> {}
+
 impl<X: Law> Demi<X> {
     /// The heap of all arrays.
     pub fn heap(&self) -> &Heap
