@@ -2,3 +2,6 @@ mod crew;
 mod doubler;
 mod talking;
 mod whole;
+mod redeeming;
+mod refusing;
+mod rows;
