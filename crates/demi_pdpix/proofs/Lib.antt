@@ -12,3 +12,4 @@ mod Learning
 mod Tried
 mod StillBusy
 mod AllCame
+mod OneCaller
