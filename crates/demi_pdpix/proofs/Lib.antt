@@ -12,4 +12,5 @@ mod Learning
 mod Tried
 mod StillBusy
 mod AllCame
+pub mod Holding
 mod OneCaller

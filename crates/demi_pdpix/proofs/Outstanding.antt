@@ -1,5 +1,5 @@
 -- What calls do to what is outstanding.
-use Rattle.std.proofs.Common.{◌≡◌, ◌≢◌, ℕ, zero, suc, ◌+◌, ◌*◌, ◌<◌, Bool, true, false, cond, ◌⊎◌, inl, inr, List, [], ◌∷◌, ◌++◌, length, length-append, get_or, set, replicate, refl, ap, sym, subst, ◌∙◌, arith}
+use Rattle.std.proofs.Common.{◌≡◌, ◌≢◌, ℕ, zero, suc, ◌+◌, ◌*◌, ◌<◌, Bool, true, false, cond, ◌⊎◌, inl, inr, List, [], ◌∷◌, ◌++◌, length, append-nil, length-append, get_or, set, replicate, refl, ap, sym, subst, ◌∙◌, arith}
 use Rattle.demi_port_core.specs.declared.place.QToken.{QToken}
 use Rattle.demi_port.specs.Seen.{IsNewPass, PassValue, PortId}
 use Rattle.demi_pdpix.specs.declared.kind.PortKind.{PortKind}
@@ -17,7 +17,7 @@ use Rattle.demi_port_core.specs.declared.place.Place.{Place}
 use Rattle.std.specs.Prelude.{Some}
 use Rattle.demi_memq.specs.Counting.{result_at}
 use Rattle.demi_memq.specs.Said.{IsFrom as IsFromHeap, out_said}
-use Rattle.demi_logq.specs.Answers.{Admits}
+use Rattle.demi_logq.specs.Answers.{Admits, IsFrom as IsFromLog}
 use Rattle.demi_streamq.specs.Receiving.{IsFrom as IsOnHeap, RxAdmits}
 use Rattle.demi_streamq.specs.Sending.{TxAdmits}
 use Rattle.demi_pdpix.specs.Answers.{Redeemed, SawBusy}
@@ -26,7 +26,8 @@ use Rattle.demi_pdpix.specs.Calls.{Changed, FindsNone, FoundNone, OnService, Sub
 use Rattle.demi_pdpix.specs.Kinds.{kind_of}
 use Rattle.demi_pdpix.specs.Owing.{AreDue, IsDue, IsDueAt, IsFirstDue, Owes, due_at, one_more_at, same_kind, without_at}
 use Rattle.demi_pdpix.specs.Seen.{AreAt, AreNewAt, CallerValue, DemiId, IsNewCaller, IsOf, LogPass, MemPass, RxPass, TxPass}
-use Rattle.demi_pdpix.specs.Several.{StoppedAt}
+use Rattle.demi_pdpix.specs.declared.outcomes.Any.TheVariants.{Ready as ReadyAt}
+use Rattle.demi_pdpix.specs.Several.{StoppedAt, WaitedAny, rounds}
 use Rattle.demi_pdpix.specs.Together.{AllCame}
 use Rattle.demi_pdpix.specs.Tries.{AllBusy, BusyAt, FoundBusy, Tried, TriedAt, TriedJournal, TriedMemory, TriedRx, TriedService, TriedTx, Waited}
 use Rattle.demi_pdpix.proofs.Columns.{set_there, same_there}
@@ -170,12 +171,12 @@ service_redeemed admits n m token place p q (Log o) h due = absurd h
 service_redeemed admits n m token place p q (Rx o) h due = absurd h
 service_redeemed admits n m token place p q (Tx o) h due = absurd h
 
-log_redeemed : {L P O S T B : Type 0} (n m token : ℕ) (place : Place) (p q : LogPass) (r : QResult L P O S T B) → TriedJournal {L = L} {P = P} {O = O} {S = S} {T = T} {B = B} token p q (Ready place r) → IsDue n (m + 1) p → IsDue n m q
-log_redeemed n m token place p q (Mem o) h due = absurd h
-log_redeemed n m token place p q (Serviced o) h due = absurd h
-log_redeemed n m token place p q (Log o) h due = redeemed_due (λ h t k. Admits p.port.key.base h t k o) n m token place.0 p q h due
-log_redeemed n m token place p q (Rx o) h due = absurd h
-log_redeemed n m token place p q (Tx o) h due = absurd h
+log_redeemed : {L P O S T B : Type 0} (heap : HeapId) (n m token : ℕ) (place : Place) (p q : LogPass) (r : QResult L P O S T B) → TriedJournal {L = L} {P = P} {O = O} {S = S} {T = T} {B = B} heap token p q (Ready place r) → IsDue n (m + 1) p → IsDue n m q
+log_redeemed heap n m token place p q (Mem o) h due = absurd h
+log_redeemed heap n m token place p q (Serviced o) h due = absurd h
+log_redeemed heap n m token place p q (Log o) h due = redeemed_due (λ h t k. Admits p.port.key.base h t k o × IsFromLog heap o) n m token place.0 p q h due
+log_redeemed heap n m token place p q (Rx o) h due = absurd h
+log_redeemed heap n m token place p q (Tx o) h due = absurd h
 
 rx_redeemed : {L P O S T B : Type 0} (heap : HeapId) (n m token : ℕ) (place : Place) (p q : RxPass) (r : QResult L P O S T B) → TriedRx {L = L} {P = P} {O = O} {S = S} {T = T} {B = B} heap token p q (Ready place r) → IsDue n (m + 1) p → IsDue n m q
 rx_redeemed heap n m token place p q (Mem o) h due = absurd h
@@ -191,7 +192,7 @@ tx_redeemed n m token place p q (Log o) h due = absurd h
 tx_redeemed n m token place p q (Rx o) h due = absurd h
 tx_redeemed n m token place p q (Tx o) h due = redeemed_due (λ h t k. TxAdmits h t k o) n m token place.0 p q h due
 
-is_unknown : {L P O S T B : Type 0} → Answer L P O S T B → Type 0
+abbrev is_unknown : {L P O S T B : Type 0} → Answer L P O S T B → Type 0
 is_unknown (Ready p o) = ⊥
 is_unknown NotYet = ⊥
 is_unknown Spent = ⊥
@@ -205,7 +206,7 @@ redeems_due Memory admits heap n token f c e place r s due = subst (IsDueAt n f)
 redeems_due Service admits heap n token f c e place r s due = subst (IsDueAt n f) (sym s.0)
     (due.0, service_redeemed admits n (f Service) token place c.service e.service r s.1 due.1, due.2, due.3, due.4)
 redeems_due {L} {P} {O} {S} {T} {B} Journal admits heap n token f c e place r s due = subst (IsDueAt n f) (sym s.0)
-    (due.0, due.1, changed_first (λ p q. TriedJournal {L = L} {P = P} {O = O} {S = S} {T = T} {B = B} token p q (Ready place r)) n (f Journal + 1) (f Journal) c.journal e.journal (λ p q h d. log_redeemed n (f Journal) token place p q r h d) s.1 due.2, due.3, due.4)
+    (due.0, due.1, changed_first (λ p q. TriedJournal {L = L} {P = P} {O = O} {S = S} {T = T} {B = B} heap token p q (Ready place r)) n (f Journal + 1) (f Journal) c.journal e.journal (λ p q h d. log_redeemed heap n (f Journal) token place p q r h d) s.1 due.2, due.3, due.4)
 redeems_due {L} {P} {O} {S} {T} {B} (Receiving j) admits heap n token f c e place r s due = subst (IsDueAt n f) (sym s.0)
     (due.0, due.1, due.2, changed_due (λ p q. TriedRx {L = L} {P = P} {O = O} {S = S} {T = T} {B = B} heap token p q (Ready place r)) n j (λ k. one_more_at (Receiving j) f (Receiving k)) (λ k. f (Receiving k)) c.rx e.rx
       (λ p q h d. rx_redeemed heap n (f (Receiving j)) token place p q r h (less_here n j (λ k. f (Receiving k)) p d)) (λ k ne. sym (elsewhere (λ k. f (Receiving k)) j k ne)) s.1 due.3, due.4)
@@ -293,9 +294,35 @@ new_owes d n c new = (
     rx = new_at n c.rx d.rx new.rx;
     tx = new_at n c.tx d.tx new.tx;
   },
-  new_due n c.memory d.memory new.memory,
-  new_due n c.service d.service new.service,
-  (λ p low. new_due_at n c.journal d.journal new.journal 0 p low),
-  new_due_at n c.rx d.rx new.rx,
-  new_due_at n c.tx d.tx new.tx,
+  (
+    new_due n c.memory d.memory new.memory,
+    new_due n c.service d.service new.service,
+    (λ p low. new_due_at n c.journal d.journal new.journal 0 p low),
+    new_due_at n c.rx d.rx new.rx,
+    new_due_at n c.tx d.tx new.tx,
+  ),
 )
+
+-- What the calls do, as a caller cites it.
+module _ {D T B : Type 0} (d : DemiId B) (n : ℕ) (tokens : List QToken) (c e : CallerValue D T B) (of : IsOf d e) where
+  pub owes_asked : (t : QToken) (place : ℕ) (op : D) → t.port ≡ 1 → OnService c e → SubmittedAt place c.service e.service t.token.0 op → Owes d n tokens c → Owes d n (t ∷ tokens) e
+  owes_asked t place op at only s owes = (of, subst (λ k. IsDueAt n (one_more_at k (due_at d tokens)) e) (sym (ap (kind_of d) at)) (asks_due n place t.token.0 op (due_at d tokens) c e only s owes.1))
+
+  pub owes_more : (t : QToken) (port : ℕ) (asked : Asked) → t.port ≡ port → Submits (kind_of d port) asked c e t.token.0 → Owes d n tokens c → Owes d n (t ∷ tokens) e
+  owes_more t port asked at s owes = (of, subst (λ k. IsDueAt n (one_more_at k (due_at d tokens)) e) (sym (ap (kind_of d) at)) (submits_due (kind_of d port) asked n t.token.0 (due_at d tokens) c e s owes.1))
+
+  pub owes_same : (kind : PortKind) → FindsNone kind c e → Owes d n tokens c → Owes d n tokens e
+  owes_same kind s owes = (of, none_due_at kind n (due_at d tokens) c e s owes.1)
+
+  pub owes_heap : e ≡ record c { heap = e.heap } → Owes d n tokens c → Owes d n tokens e
+  owes_heap only owes = (of, subst (IsDueAt n (due_at d tokens)) (sym only) owes.1)
+
+module _ {L P O S T B : Type 0} (admits : B → List S → List (ℕ × T) → ℕ → O → Type 0) (d : DemiId B) (n : ℕ) (c e : CallerValue S T B) (of : IsOf d e) where
+  pub owes_less : (t : QToken) (tokens : List QToken) (place : Place) (r : QResult L P O S T B) → Waited admits d t c e (Ready place r) → Owes d n (t ∷ tokens) c → Owes d n tokens e
+  owes_less t tokens place r w owes = (of, waited_due admits d t n (due_at d tokens) c e place r w owes.1)
+
+  pub owes_but : (tokens : List QToken) (i : ℕ) (place : Place) (r : QResult L P O S T B) → WaitedAny admits d tokens c e (ReadyAt i place r) → Owes d n tokens c → Owes d n (without_at i tokens) e
+  owes_but tokens i place r w owes = (of, stopped_due admits d tokens n i w.1 e place r w.3 (all_busy_due d (rounds w.0 tokens) n (due_at d tokens) c w.1 w.2 owes.1))
+
+  pub owes_none : (tokens : List QToken) (results : List (Place × QResult L P O S T B)) → AllCame admits d tokens results c e → Owes d n tokens c → Owes d n [] e
+  owes_none tokens results came owes = (of, all_came_due admits d tokens [] results n c e came (subst (λ ts. IsDueAt n (due_at d ts) c) (sym (append-nil tokens)) owes.1))

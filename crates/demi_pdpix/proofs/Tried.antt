@@ -11,6 +11,7 @@ use Rattle.demi_memq.specs.Said.{IsFrom as IsFromHeap}
 use Rattle.demi_memq.specs.declared.op.MemOp.{MemOp}
 use Rattle.demi_memq.specs.declared.out.MemOut.{MemOut}
 use Rattle.demi_logq.specs.Answers.{Admits, LogBasis}
+use Rattle.demi_logq.specs.Answers.{IsFrom as IsFromLog}
 use Rattle.demi_logq.specs.declared.op.LogOp.{LogOp}
 use Rattle.demi_logq.specs.declared.out.LogOut.{LogOut}
 use Rattle.demi_logq.specs.declared.told.LogTold.{LogTold}
@@ -48,12 +49,21 @@ for_memory L P O S T B heap token p q NotYet e h = h
 for_memory L P O S T B heap token p q Spent e h = h
 for_memory L P O S T B heap token p q Unknown e h = h
 
-pub for_journal : {K Q : Type 0} (L P O S T B : Type 0) (token : ℕ) (p q : LogPass) (r : Redeem K Q LogOut LogOp LogTold LogBasis)
-    → TriedBy Admits token p q r → TriedJournal {L = L} {P = P} {O = O} {S = S} {T = T} {B = B} token p q (log_answer r)
-for_journal L P O S T B token p q (Ready n o) h = h
-for_journal L P O S T B token p q NotYet h = h
-for_journal L P O S T B token p q Spent h = h
-for_journal L P O S T B token p q Unknown h = h
+pub for_journal : {K Q : Type 0} (L P O S T B : Type 0) (heap : HeapId) (token : ℕ) (p q : LogPass) (r : Redeem K Q LogOut LogOp LogTold LogBasis)
+    → p.port.key.base.heap ≡ heap → TriedBy Admits token p q r → TriedJournal {L = L} {P = P} {O = O} {S = S} {T = T} {B = B} heap token p q (log_answer r)
+for_journal L P O S T B heap token p q (Ready n o) e h = record {
+  admitted = (h.admitted, subst (λ b. IsFromLog b o) e h.admitted.3);
+  below = h.below;
+  pass = h.pass;
+  done = h.done;
+  own = h.own;
+  once = h.once;
+  later = h.later;
+  grows = h.grows;
+}
+for_journal L P O S T B heap token p q NotYet e h = h
+for_journal L P O S T B heap token p q Spent e h = h
+for_journal L P O S T B heap token p q Unknown e h = h
 
 pub for_rx : {K Q : Type 0} (L P O S T B : Type 0) (heap : HeapId) (token : ℕ) (p q : RxPass) (r : Redeem K Q RxOut RxOp RxTold HeapId)
     → p.port.key.base ≡ heap → TriedBy (λ b h t n o. RxAdmits h t n o × IsOnHeap b o) token p q r
@@ -89,6 +99,11 @@ pub on_base : {D T : Type 0} (heap : HeapId) (ps : List (PassValue D T HeapId)) 
 on_base heap ps ls k are low base e = let l : LaneValue _ _ HeapId = record { port = e.port; home = []; callers = 0 } in
     ap (λ (x : PortId HeapId). x.key.base) (at_port ps ls k e l are low) ∙ base k l low
 
+pub on_log_base : (heap : HeapId) (ps : List LogPass) (ls : List (LaneValue LogOp LogTold LogBasis)) (k : ℕ) → AreAt ps (map port_of ls) → k < length ls
+    → All (λ (l : LaneValue LogOp LogTold LogBasis). l.port.key.base.heap ≡ heap) ls → (e : LogPass) → (get_or ps k e).port.key.base.heap ≡ heap
+on_log_base heap ps ls k are low base e = let l : LaneValue LogOp LogTold LogBasis = record { port = e.port; home = []; callers = 0 } in
+    ap (λ (x : PortId LogBasis). x.key.base.heap) (at_port ps ls k e l are low) ∙ base k l low
+
 module _ {L P O S T B : Type 0} (admits : B → List S → List (ℕ × T) → ℕ → O → Type 0) (heap : HeapId) (token : ℕ) (x c : CallerValue S T B) (answer : Answer L P O S T B) (same : x ≡ c) where
   pub tried_memory : {K Q : Type 0} (new : MemPass) (r : Redeem K Q MemOut MemOp (Unit {0}) HeapId) → answer ≡ mem_answer r → x.memory.port.key.base ≡ heap
       → TriedBy (λ b h t n o. (result_at 1024 h n ≡ Some (out_said o)) × IsFromHeap b o) token x.memory new r
@@ -99,12 +114,12 @@ module _ {L P O S T B : Type 0} (admits : B → List S → List (ℕ × T) → �
         (subst (TriedMemory heap token x.memory new) (sym is) (for_memory _ _ _ _ _ _ heap token x.memory new r base tried)),
   )
 
-  pub tried_journal : {K Q : Type 0} (new : List LogPass) (r : Redeem K Q LogOut LogOp LogTold LogBasis) → answer ≡ log_answer r
+  pub tried_journal : {K Q : Type 0} (new : List LogPass) (r : Redeem K Q LogOut LogOp LogTold LogBasis) → answer ≡ log_answer r → ((e : LogPass) → (get_or x.journal 0 e).port.key.base.heap ≡ heap)
       → Changed 0 x.journal new (λ p q. TriedBy Admits token p q r) → TriedAt Journal admits heap token c (record x { journal = new }) answer
-  tried_journal new r is changed = (
+  tried_journal new r is base changed = (
     ap (λ (z : CallerValue _ _ _). record z { journal = new }) same,
-    subst (λ ps. Changed 0 ps new (λ p q. TriedJournal token p q answer)) (ap (λ (z : CallerValue _ _ _). z.journal) same)
-        (λ e. ((changed e).0, subst (TriedJournal token (get_or x.journal 0 e) (get_or new 0 e)) (sym is) (for_journal _ _ _ _ _ _ token (get_or x.journal 0 e) (get_or new 0 e) r (changed e).1))),
+    subst (λ ps. Changed 0 ps new (λ p q. TriedJournal heap token p q answer)) (ap (λ (z : CallerValue _ _ _). z.journal) same)
+        (λ e. ((changed e).0, subst (TriedJournal heap token (get_or x.journal 0 e) (get_or new 0 e)) (sym is) (for_journal _ _ _ _ _ _ heap token (get_or x.journal 0 e) (get_or new 0 e) r (base e) (changed e).1))),
   )
 
   pub tried_rx : {K Q : Type 0} (k : ℕ) (new : List RxPass) (r : Redeem K Q RxOut RxOp RxTold HeapId) → answer ≡ rx_answer r → ((e : RxPass) → (get_or x.rx k e).port.key.base ≡ heap)

@@ -5,11 +5,13 @@ use Rattle.demi_heap.specs.Seen.{HeapId}
 use Rattle.demi_port.specs.Seen.{PassValue}
 use Rattle.demi_memq.specs.Counting.{result_at}
 use Rattle.demi_memq.specs.Said.{IsFrom as IsFromHeap, out_said}
-use Rattle.demi_logq.specs.Answers.{Admits}
+use Rattle.demi_logq.specs.Answers.{Admits, IsFrom as IsFromLog}
 use Rattle.demi_streamq.specs.Receiving.{IsFrom as IsOnHeap, RxAdmits}
 use Rattle.demi_streamq.specs.Sending.{TxAdmits}
 use Rattle.demi_pdpix.specs.declared.kind.PortKind.{PortKind}
 use Rattle.demi_pdpix.specs.declared.kind.PortKind.TheVariants.{Memory, Service, Journal, Receiving, Sending, Nowhere}
+use Rattle.demi_pdpix.specs.declared.outcomes.QResult.{QResult}
+use Rattle.demi_pdpix.specs.declared.outcomes.QResult.TheVariants.{Mem, Service as Serviced, Log, Rx, Tx}
 use Rattle.demi_pdpix.specs.declared.outcomes.Answer.{Answer}
 use Rattle.demi_pdpix.specs.declared.outcomes.Answer.TheVariants.{NotYet, Unknown}
 use Rattle.demi_pdpix.specs.Calls.{Changed, OnJournal, OnMemory, OnRx, OnService, OnTx}
@@ -29,10 +31,10 @@ TriedService admits token p q answer =
     Cases answer (λ place r. IsService r (λ o. Redeemed (λ h t n. admits p.port.key.base h t n o) token place p q))
     (SawBusy token p q) (SawSpent token p q) (SawUnknown token p q)
 
--- a pass of a log's queue: the outcome is that of its place over the port's base, by what the pass was handed
-abbrev pub TriedJournal : {L P O S T B : Type 0} → ℕ → LogPass → LogPass → Answer L P O S T B → Type 0
-TriedJournal token p q answer =
-    Cases answer (λ place r. IsLog r (λ o. Redeemed (λ h t n. Admits p.port.key.base h t n o) token place p q))
+-- a pass of a log's queue: the outcome is that of its place over the port's base, by what the pass was handed, and its array is of this heap
+abbrev pub TriedJournal : {L P O S T B : Type 0} → HeapId → ℕ → LogPass → LogPass → Answer L P O S T B → Type 0
+TriedJournal heap token p q answer =
+    Cases answer (λ place r. IsLog r (λ o. Redeemed (λ h t n. Admits p.port.key.base h t n o × IsFromLog heap o) token place p q))
     (SawBusy token p q) (SawSpent token p q) (SawUnknown token p q)
 
 -- a pass of a port that receives into this heap
@@ -51,7 +53,7 @@ TriedTx token p q answer =
 abbrev pub TriedAt : {L P O S T B : Type 0} → PortKind → (B → List S → List (ℕ × T) → ℕ → O → Type 0) → HeapId → ℕ → CallerValue S T B → CallerValue S T B → Answer L P O S T B → Type 0
 TriedAt Memory admits heap token c e answer = OnMemory c e × TriedMemory heap token c.memory e.memory answer
 TriedAt Service admits heap token c e answer = OnService c e × TriedService admits token c.service e.service answer
-TriedAt Journal admits heap token c e answer = OnJournal c e × Changed 0 c.journal e.journal (λ p q. TriedJournal token p q answer)
+TriedAt Journal admits heap token c e answer = OnJournal c e × Changed 0 c.journal e.journal (λ p q. TriedJournal heap token p q answer)
 TriedAt (Receiving k) admits heap token c e answer = OnRx c e × Changed k c.rx e.rx (λ p q. TriedRx heap token p q answer)
 TriedAt (Sending k) admits heap token c e answer = OnTx c e × Changed k c.tx e.tx (λ p q. TriedTx token p q answer)
 TriedAt Nowhere admits heap token c e answer = (answer ≡ Unknown) × (e ≡ c)
@@ -81,3 +83,11 @@ AllBusy {D} {T} {B} d (t ∷ ts) c e = (m : CallerValue D T B) × FoundBusy d t 
 -- the token was tried so often that found it busy, and then once more with this answer, which is another
 abbrev pub Waited : {L P O S T B : Type 0} → (B → List S → List (ℕ × T) → ℕ → O → Type 0) → DemiId B → QToken → CallerValue S T B → CallerValue S T B → Answer L P O S T B → Type 0
 Waited {S = S} {T = T} {B = B} admits d token c e answer = (n : ℕ) × (m : CallerValue S T B) × AllBusy d (replicate n token) c m × Tried admits d token m e answer × (answer ≢ NotYet)
+
+-- the arrays and buffers of an outcome are of this heap
+abbrev pub HoldsOf : {L P O S T B : Type 0} → HeapId → QResult L P O S T B → Type 0
+HoldsOf heap (Mem o) = IsFromHeap heap o
+HoldsOf heap (Serviced o) = Unit {0}
+HoldsOf heap (Log o) = IsFromLog heap o
+HoldsOf heap (Rx o) = IsOnHeap heap o
+HoldsOf heap (Tx o) = Unit {0}

@@ -1,10 +1,12 @@
 //! Waits for several tokens, where the device of the memory queues is turned by hand.
-ghost use Rattle.std.specs.Prelude.{◌≡◌, []};
+ghost use Rattle.std.specs.Prelude.{◌≡◌, Some, [], ◌∷◌};
+ghost use Rattle.demi_pdpix.specs.declared.all.Halted.TheVariants.{Spent};
 ghost use Rattle.demi_pdpix.specs.Owing.{Owes};
 ghost use Rattle.demi_pdpix.specs.Seen.{IsNewPair};
 
 use super::doubler::UntilZero;
-use crate::{AllEnd, Answer, Any, Caller, Demi, Halted, QResult, Qd};
+use super::talking::{Came, came, opened, popped, stopped};
+use crate::{AllEnd, Any, Caller, Demi, Halted, QResult, Qd};
 use demi_device::{Device, Turn};
 use demi_heap::HeapPass;
 use demi_memq::{MemEngine, MemLaw, MemOut};
@@ -77,34 +79,12 @@ fn open<R: Wait + Abort>(
     ensures caller { Owes demi.now 0 [] caller.new }
     ensures device { (device.new.seat.port ≡ demi.now.memory) × (device.new.seat.passes ≡ device.old.seat.passes) × (device.new.engine.pass.heap ≡ device.old.engine.pass.heap) }
 {
-    let Ok(token) = demi.queue(caller) else {
-        panic!(rt; "no token is free");
-    };
+    let token = opened(rt, demi, caller);
     let _one = turn(demi, device);
-    match demi.wait(rt, caller, token) {
-        Answer::Ready(_, QResult::Mem(MemOut::Opened(q))) => q,
+    match came(rt, demi, caller, token) {
+        QResult::Mem(MemOut::Opened(q)) => q,
         _ => panic!(rt; "it is not opened"),
     }
-}
-
-// Two pops, the later one first.
-fn two_pops(
-    rt: &impl Abort,
-    demi: &Demi<UntilZero>,
-    caller: &mut Caller<UntilZero>,
-    queue: u32,
-) -> [QToken; 2]
-    requires { Owes demi.now 0 [] caller.old }
-    ensures { Owes demi.now 0 result caller.new }
-{
-    let qd = Qd { port: 0, queue };
-    let Ok(first) = demi.pop(caller, qd, 1) else {
-        panic!(rt; "no token is free");
-    };
-    let Ok(second) = demi.pop(caller, qd, 1) else {
-        panic!(rt; "no token is free");
-    };
-    [second, first]
 }
 
 // None of the tokens has an outcome.
@@ -141,12 +121,10 @@ fn stop<R: Wait + Abort>(
     ensures device { (device.new.seat.port ≡ demi.now.memory) × (device.new.seat.passes ≡ device.old.seat.passes) × (device.new.engine.pass.heap ≡ device.old.engine.pass.heap) }
 {
     let _ = tokens;
-    let Ok(token) = demi.stop(caller, 0) else {
-        panic!(rt; "no token is free");
-    };
+    let token = stopped(rt, demi, caller, 0);
     let _one = turn(demi, device);
-    match demi.wait(rt, caller, token) {
-        Answer::Ready(_, QResult::Mem(MemOut::Halted)) => {}
+    match came(rt, demi, caller, token) {
+        QResult::Mem(MemOut::Halted) => {}
         _ => panic!(rt; "it is not the stop's"),
     }
 }
@@ -159,29 +137,42 @@ fn stopped_at(rt: &impl Abort, came: QResult<UntilZero>) -> u64 {
     }
 }
 
-// Waits for both tokens and the first again.
+// The index of the token that ended a wait for all since it was spent.
+fn spent_index(rt: &impl Abort, halted: Option<Halted>) -> usize
+    ensures { halted ≡ Some (Spent result) }
+{
+    match halted {
+        Some(Halted::Spent(index)) => index,
+        _ => panic!(rt; "none was spent"),
+    }
+}
+
+// Waits for a token, another, and the first again.
 fn both_and_one_again<R: Wait + Abort>(
     rt: &R,
     alloc: Global,
     demi: &Demi<UntilZero>,
     caller: &mut Caller<UntilZero>,
-    tokens: [QToken; 2],
-)
-    requires { Owes demi.now 0 tokens caller.old }
+    one: QToken,
+    other: QToken,
+) -> Came
+    requires { Owes demi.now 0 (one ∷ other ∷ []) caller.old }
     ensures { Owes demi.now 0 [] caller.new }
 {
-    let [second, first] = tokens;
-    let Ok(AllEnd {
-        mut results,
-        halted,
-    }) = demi.wait_all(rt, alloc, caller, &[second, first, second])
-    else {
+    let tokens = [one, other, one];
+    let Ok(AllEnd { results, halted }) = demi.wait_all(rt, alloc, caller, &tokens) else {
         panic!(rt; "no memory");
     };
-    assert_eq!(rt; halted, Some(Halted::Spent(2)));
-    assert_eq!(rt; results.len(), 2);
+    if spent_index(rt, halted) != 2 {
+        panic!(rt; "another is spent");
+    }
+    results
+}
+
+// Each pop had nothing, for the stop at this place.
+fn all_stopped(rt: &impl Abort, mut results: Came, place: u64) {
     while let Some((_, came)) = results.pop() {
-        assert_eq!(rt; stopped_at(rt, came), 3);
+        assert_eq!(rt; stopped_at(rt, came), place);
     }
     results.destroy_empty();
 }
@@ -200,9 +191,14 @@ pub(super) fn pops_that_are_stopped<R: Wait + Abort>(
     ensures device { (device.new.seat.port ≡ demi.now.memory) × (device.new.seat.passes ≡ device.old.seat.passes) × (device.new.engine.pass.heap ≡ device.old.engine.pass.heap) }
 {
     let queue = open(rt, demi, caller, device);
-    let tokens = two_pops(rt, demi, caller, queue);
+    let qd = Qd { port: 0, queue };
+    let first = popped(rt, demi, caller, qd);
+    let second = popped(rt, demi, caller, qd);
     let _two = turn(demi, device);
+    let tokens = [second, first];
     none_has_come(rt, demi, caller, &tokens);
     stop(rt, demi, caller, device, &tokens);
-    both_and_one_again(rt, alloc, demi, caller, tokens);
+    let results = both_and_one_again(rt, alloc, demi, caller, second, first);
+    assert_eq!(rt; results.len(), 2);
+    all_stopped(rt, results, 3);
 }

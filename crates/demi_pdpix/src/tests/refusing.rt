@@ -1,9 +1,10 @@
 //! What descriptors refuse, over a whole with one link and without a log.
-ghost use Rattle.std.specs.Prelude.{◌≡◌, length};
+ghost use Rattle.std.specs.Prelude.{◌≡◌, [], length};
 ghost use Rattle.demi_sga.specs.Arrays.{AreOf};
 ghost use Rattle.demi_pdpix.specs.Asks.{IfBad};
 ghost use Rattle.demi_pdpix.specs.Calls.{OnHeap};
 ghost use Rattle.demi_pdpix.specs.Kinds.{kind_of};
+ghost use Rattle.demi_pdpix.specs.Owing.{Owes};
 ghost use Rattle.demi_pdpix.specs.Seen.{IsOf};
 ghost use Rattle.demi_pdpix.specs.declared.kind.PortKind.TheVariants.{Nowhere};
 
@@ -138,10 +139,9 @@ pub(super) fn what_is_refused(
     demi: &Demi<UntilZero>,
     caller: &mut Caller<UntilZero>,
 )
-    requires of { IsOf demi.now caller.old }
+    requires of { Owes demi.now 0 [] caller.old }
     requires plan { (length demi.now.journal ≡ 0) × (length demi.now.rx ≡ 1) }
-    ensures of { IsOf demi.now caller.new }
-    ensures only { OnHeap caller.old caller.new }
+    ensures { Owes demi.now 0 [] caller.new }
 {
     refusals(rt, demi, caller);
     unknown(rt, demi, caller, 2);
