@@ -1,3 +1,4 @@
+mod callers;
 mod crew;
 mod doubler;
 mod talking;
