@@ -15,8 +15,11 @@ use Rattle.demi_pdpix.specs.Answers.{SawSpent}
 use Rattle.demi_pdpix.specs.Closing.{AllBack, AllBackAt}
 use Rattle.demi_pdpix.specs.Kinds.{kind_of}
 use Rattle.demi_pdpix.specs.Owing.{IsDue, IsDueAt, Owes, due_at}
-use Rattle.demi_pdpix.specs.Seen.{AreAt, AreNewCallers, AreNewPairs, CallerValue, DemiId, IsNewPair, Pair}
-use Rattle.demi_pdpix.specs.Together.{AllCame, StoppedBy}
+use Rattle.demi_pdpix.specs.Seen.{AreAt, AreNewCallers, AreNewPairs, CallerValue, DemiId, IsNewPair, IsOf, Pair}
+use Rattle.std.specs.Prelude.{Option, Some, cond, nat_lt}
+use Rattle.demi_pdpix.specs.declared.all.Halted.{Halted}
+use Rattle.demi_pdpix.specs.declared.all.Halted.TheVariants.{Spent as SpentAt}
+use Rattle.demi_pdpix.specs.Together.{AllCame, StoppedBy, WaitedAll}
 use Rattle.demi_pdpix.specs.Tries.{TriedAt, Waited}
 use Rattle.demi_pdpix.proofs.Outstanding.{all_busy_due, all_came_due, changed_due, changed_first, new_owes}
 
@@ -28,8 +31,7 @@ found_due n m token F p q (t, k, after, is, new) due =
 spent_due : {D T B : Type 0} (n m token : ℕ) (p q : PassValue D T B) → SawSpent token p q → IsDue n m p → IsDue n m q
 spent_due n m token p q saw due = found_due n m token _ p q saw due
 
-is_unknown : {L P O S T B : Type 0} → Answer L P O S T B → Type 0
-unfolding is_unknown
+abbrev is_unknown : {L P O S T B : Type 0} → Answer L P O S T B → Type 0
 is_unknown (Ready p o) = ⊥
 is_unknown NotYet = ⊥
 is_unknown Spent = ⊥
@@ -38,7 +40,6 @@ is_unknown Unknown = Unit {0}
 -- nor does a try of a token that was redeemed before
 spent_due_at : {L P O S T B : Type 0} (kind : PortKind) (admits : B → List S → List (ℕ × T) → ℕ → O → Type 0) (heap : HeapId) (n token : ℕ) (f : PortKind → ℕ) (c e : CallerValue S T B)
     → TriedAt {L = L} {P = P} {O = O} kind admits heap token c e Spent → IsDueAt n f c → IsDueAt n f e
-unfolding is_unknown
 spent_due_at Memory admits heap n token f c e s due = subst (IsDueAt n f) (sym s.0) (spent_due n (f Memory) token c.memory e.memory s.1 due.0, due.1, due.2, due.3, due.4)
 spent_due_at Service admits heap n token f c e s due = subst (IsDueAt n f) (sym s.0) (due.0, spent_due n (f Service) token c.service e.service s.1 due.1, due.2, due.3, due.4)
 spent_due_at Journal admits heap n token f c e s due = subst (IsDueAt n f) (sym s.0)
@@ -62,6 +63,18 @@ two_came admits d a b results n c e (before, x, after, m, is, many, came, waited
     let both = subst (λ ts. AllCame admits d ts results c m) (two_of before x after a b a is many) came in
     let none = all_came_due admits d (a ∷ b ∷ []) [] results n c m both due in
     spent_due_at (kind_of d x.port) admits d.heap n x.token.0 (due_at d []) waited.1 e waited.3 (all_busy_due d (replicate waited.0 x) n (due_at d []) m waited.1 waited.2 none)
+
+pub halted_at_two : {L P O S T B : Type 0} (admits : B → List S → List (ℕ × T) → ℕ → O → Type 0) (d : DemiId B) (a b : QToken) (results : List (Place × QResult L P O S T B)) (halted : Option Halted) (c e : CallerValue S T B)
+    → IsOf d e → halted ≡ Some (SpentAt 2) → WaitedAll admits d (a ∷ b ∷ a ∷ []) c e results halted → Owes d 0 (a ∷ b ∷ []) c → Owes d 0 [] e
+halted_at_two admits d a b results halted c e of is waited owes =
+    (of, two_came admits d a b results 0 c e (subst (λ (h : Option Halted). WaitedAll admits d (a ∷ b ∷ a ∷ []) c e results h) is waited) owes.1)
+
+-- there is no port 2 without a log, and no port 9 with one link
+pub no_log : {B : Type 0} (d : DemiId B) → length d.journal ≡ 0 → kind_of d 2 ≡ Nowhere
+no_log d none = ap (λ n. cond (nat_lt 0 n) Journal Nowhere) none
+
+pub no_fourth : {B : Type 0} (d : DemiId B) → length d.rx ≡ 1 → kind_of d 9 ≡ Nowhere
+no_fourth d one = ap (λ n. cond (nat_lt 3 n) (Receiving 3) Nowhere) one
 
 -- a whole that was just made for one caller
 pub new_alone : {D T B : Type 0} (d : DemiId B) (cs : List (CallerValue D T B)) → length cs ≡ 1 → AreNewCallers d 0 cs → IsAlone d cs
