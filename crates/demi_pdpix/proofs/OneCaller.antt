@@ -38,17 +38,17 @@ is_unknown Spent = ⊥
 is_unknown Unknown = Unit {0}
 
 -- nor does a try of a token that was redeemed before
-spent_due_at : {L P O S T B : Type 0} (kind : PortKind) (admits : B → List S → List (ℕ × T) → ℕ → O → Type 0) (heap : HeapId) (n token : ℕ) (f : PortKind → ℕ) (c e : CallerValue S T B)
+spent_due_at : (L P O : Type 0) {S T B : Type 0} (kind : PortKind) (admits : B → List S → List (ℕ × T) → ℕ → O → Type 0) (heap : HeapId) (n token : ℕ) (f : PortKind → ℕ) (c e : CallerValue S T B)
     → TriedAt {L = L} {P = P} {O = O} kind admits heap token c e Spent → IsDueAt n f c → IsDueAt n f e
-spent_due_at Memory admits heap n token f c e s due = subst (IsDueAt n f) (sym s.0) (spent_due n (f Memory) token c.memory e.memory s.1 due.0, due.1, due.2, due.3, due.4)
-spent_due_at Service admits heap n token f c e s due = subst (IsDueAt n f) (sym s.0) (due.0, spent_due n (f Service) token c.service e.service s.1 due.1, due.2, due.3, due.4)
-spent_due_at Journal admits heap n token f c e s due = subst (IsDueAt n f) (sym s.0)
+spent_due_at L P O Memory admits heap n token f c e s due = subst (IsDueAt n f) (sym s.0) (spent_due n (f Memory) token c.memory e.memory s.1 due.0, due.1, due.2, due.3, due.4)
+spent_due_at L P O Service admits heap n token f c e s due = subst (IsDueAt n f) (sym s.0) (due.0, spent_due n (f Service) token c.service e.service s.1 due.1, due.2, due.3, due.4)
+spent_due_at L P O Journal admits heap n token f c e s due = subst (IsDueAt n f) (sym s.0)
     (due.0, due.1, changed_first (SawSpent token) n (f Journal) (f Journal) c.journal e.journal (spent_due n (f Journal) token) s.1 due.2, due.3, due.4)
-spent_due_at (Receiving j) admits heap n token f c e s due = subst (IsDueAt n f) (sym s.0)
+spent_due_at L P O (Receiving j) admits heap n token f c e s due = subst (IsDueAt n f) (sym s.0)
     (due.0, due.1, due.2, changed_due (SawSpent token) n j (λ k. f (Receiving k)) (λ k. f (Receiving k)) c.rx e.rx (spent_due n (f (Receiving j)) token) (λ k ne. refl) s.1 due.3, due.4)
-spent_due_at (Sending j) admits heap n token f c e s due = subst (IsDueAt n f) (sym s.0)
+spent_due_at L P O (Sending j) admits heap n token f c e s due = subst (IsDueAt n f) (sym s.0)
     (due.0, due.1, due.2, due.3, changed_due (SawSpent token) n j (λ k. f (Sending k)) (λ k. f (Sending k)) c.tx e.tx (spent_due n (f (Sending j)) token) (λ k ne. refl) s.1 due.4)
-spent_due_at Nowhere admits heap n token f c e s due = absurd (subst is_unknown (sym s.0) tt)
+spent_due_at L P O Nowhere admits heap n token f c e s due = absurd (subst (is_unknown {L = L} {P = P} {O = O}) (sym s.0) tt)
 
 two_of : (before : List QToken) (x : QToken) (after : List QToken) (a b c : QToken) → a ∷ b ∷ c ∷ [] ≡ before ++ x ∷ after → length before ≡ 2 → before ≡ a ∷ b ∷ []
 two_of [] x after a b c is many = absurd (omega (arith, many))
@@ -59,10 +59,10 @@ two_of (p ∷ q ∷ r ∷ rs) x after a b c is many = absurd (omega (arith, many
 -- a wait for two tokens and the first again, which was then spent, leaves nothing outstanding
 pub two_came : {L P O S T B : Type 0} (admits : B → List S → List (ℕ × T) → ℕ → O → Type 0) (d : DemiId B) (a b : QToken) (results : List (Place × QResult L P O S T B)) (n : ℕ) (c e : CallerValue S T B)
     → StoppedBy admits d (a ∷ b ∷ a ∷ []) results c e 2 Spent → IsDueAt n (due_at d (a ∷ b ∷ [])) c → IsDueAt n (due_at d []) e
-two_came admits d a b results n c e (before, x, after, m, is, many, came, waited) due =
+two_came {L} {P} {O} admits d a b results n c e (before, x, after, m, is, many, came, waited) due =
     let both = subst (λ ts. AllCame admits d ts results c m) (two_of before x after a b a is many) came in
     let none = all_came_due admits d (a ∷ b ∷ []) [] results n c m both due in
-    spent_due_at (kind_of d x.port) admits d.heap n x.token.0 (due_at d []) waited.1 e waited.3 (all_busy_due d (replicate waited.0 x) n (due_at d []) m waited.1 waited.2 none)
+    spent_due_at L P O (kind_of d x.port) admits d.heap n x.token.0 (due_at d []) waited.1 e waited.3 (all_busy_due d (replicate waited.0 x) n (due_at d []) m waited.1 waited.2 none)
 
 pub halted_at_two : {L P O S T B : Type 0} (admits : B → List S → List (ℕ × T) → ℕ → O → Type 0) (d : DemiId B) (a b : QToken) (results : List (Place × QResult L P O S T B)) (halted : Option Halted) (c e : CallerValue S T B)
     → IsOf d e → halted ≡ Some (SpentAt 2) → WaitedAll admits d (a ∷ b ∷ a ∷ []) c e results halted → Owes d 0 (a ∷ b ∷ []) c → Owes d 0 [] e
