@@ -1,5 +1,5 @@
 -- A whole with one caller, at its beginning and at its end.
-use Rattle.std.proofs.Common.{◌≡◌, ℕ, zero, suc, ◌+◌, ◌<◌, ◌⊎◌, inl, List, [], ◌∷◌, ◌++◌, length, get_or, set, take, replicate, refl, ap, sym, subst, ◌∙◌, arith}
+use Rattle.std.proofs.Common.{◌≡◌, ℕ, zero, suc, ◌+◌, ◌<◌, inl, List, [], ◌∷◌, ◌++◌, length, get_or, take, replicate, refl, ap, sym, subst, ◌∙◌, arith}
 use Rattle.demi_heap.specs.Seen.{HeapId}
 use Rattle.demi_port_core.specs.History.{Each}
 use Rattle.demi_port_core.specs.declared.place.Place.{Place}
@@ -20,7 +20,7 @@ use Rattle.std.specs.Prelude.{Option, Some, cond, nat_lt}
 use Rattle.demi_pdpix.specs.declared.all.Halted.{Halted}
 use Rattle.demi_pdpix.specs.declared.all.Halted.TheVariants.{Spent as SpentAt}
 use Rattle.demi_pdpix.specs.Together.{AllCame, StoppedBy, WaitedAll}
-use Rattle.demi_pdpix.specs.Tries.{TriedAt, Waited}
+use Rattle.demi_pdpix.specs.Tries.{TriedAt}
 use Rattle.demi_pdpix.proofs.Outstanding.{all_busy_due, all_came_due, changed_due, changed_first, new_owes}
 
 -- a look at a word changes nothing of what is outstanding

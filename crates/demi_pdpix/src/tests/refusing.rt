@@ -113,12 +113,7 @@ fn array_comes_back(rt: &impl Abort, demi: &Demi<UntilZero>, caller: &mut Caller
 }
 
 // A token of a port that is not there.
-fn unknown(
-    rt: &impl Abort,
-    demi: &Demi<UntilZero>,
-    caller: &mut Caller<UntilZero>,
-    port: u16,
-)
+fn unknown(rt: &impl Abort, demi: &Demi<UntilZero>, caller: &mut Caller<UntilZero>, port: u16)
     requires of { IsOf demi.now caller.old }
     requires port { kind_of demi.now port ≡ Nowhere }
     ensures { caller.new ≡ caller.old }

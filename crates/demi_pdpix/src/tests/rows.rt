@@ -14,11 +14,7 @@ use std::process::Abort;
 use std::test::Fail;
 
 // What `make` gives.
-type Made = (
-    Demi<UntilZero>,
-    Vec<Caller<UntilZero>>,
-    Seats<UntilZero>,
-);
+type Made = (Demi<UntilZero>, Vec<Caller<UntilZero>>, Seats<UntilZero>);
 
 fn made(rt: &impl Abort, alloc: Global) -> Made
     ensures ports { (length result.0.journal ≡ 0) × (length result.0.rx ≡ 1) }
