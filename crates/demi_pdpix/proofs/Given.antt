@@ -55,7 +55,7 @@ pub lent_to : {D T B : Type 0} (kind : PortKind) (asked : List HalfValue → Ask
     → Submits kind (asked sga) (having_lent c (length sga)) e token
 lent_to kind asked x c e heap dev sga token same lends is submits =
     let becomes : record x { heap = heap } ≡ having_lent c (length sga) =
-      ap (λ (h : HeapPassValue). record x { heap = h }) lends ∙ ap (λ (z : CallerValue _ _ _). having_lent z (length sga)) same in
+    ap (λ (h : HeapPassValue). record x { heap = h }) lends ∙ ap (λ (z : CallerValue _ _ _). having_lent z (length sga)) same in
     subst (λ (z : CallerValue _ _ _). Submits kind (asked sga) z e token) becomes (subst (λ (s : List HalfValue). Submits kind (asked s) (record x { heap = heap }) e token) is submits)
 
 -- what a scan took, by the kind of the port

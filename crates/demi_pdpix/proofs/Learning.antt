@@ -1,5 +1,5 @@
 -- Passes of which the first have learnt, each of the one at its place.
-use Rattle.std.proofs.Common.{◌≡◌, ℕ, zero, suc, ◌+◌, ◌<◌, List, [], ◌∷◌, length, get_or, set, map, refl, ap, sym, ◌∙◌, arith}
+use Rattle.std.proofs.Common.{◌≡◌, ℕ, zero, suc, ◌<◌, List, [], ◌∷◌, length, get_or, set, map, refl, ap, ◌∙◌, arith}
 use Rattle.demi_port.specs.Seen.{PassValue}
 use Rattle.demi_port.specs.Seen.{PortId}
 use Rattle.demi_pdpix.specs.Notes.{all_learnt, all_noted, each_learnt, learnt, noted}
@@ -98,7 +98,7 @@ pub whole_learnt : {D T B : Type 0} (x c y e : CallerValue D T B) (memory : MemP
     → record x { memory = memory; service = service; journal = journal; rx = rx; tx = tx } ≡ all_learnt c e
 whole_learnt x c y e memory service journal rx tx same there m s j r t =
     let first : record x { memory = memory; service = service; journal = journal; rx = rx; tx = tx } ≡ all_learnt x y =
-      (λ i. record { heap = x.heap; memory = m i; service = s i; journal = j i; rx = r i; tx = t i }) in
+    (λ i. record { heap = x.heap; memory = m i; service = s i; journal = j i; rx = r i; tx = t i }) in
     first ∙ (λ i. all_learnt (same i) (there i))
 
 -- one each of whose passes has made a note
@@ -107,5 +107,5 @@ pub whole_noted : {D T B : Type 0} (x c : CallerValue D T B) (memory : MemPass) 
     → record x { memory = memory; service = service; journal = journal; rx = rx; tx = tx } ≡ all_noted c
 whole_noted x c memory service journal rx tx same m s j r t =
     let first : record x { memory = memory; service = service; journal = journal; rx = rx; tx = tx } ≡ all_noted x =
-      (λ i. record { heap = x.heap; memory = m i; service = s i; journal = j i; rx = r i; tx = t i }) in
+    (λ i. record { heap = x.heap; memory = m i; service = s i; journal = j i; rx = r i; tx = t i }) in
     first ∙ (λ i. all_noted (same i))

@@ -15,3 +15,4 @@ mod AllCame
 pub mod Holding
 pub mod SharedSeats
 pub mod Shareable
+mod OneCaller

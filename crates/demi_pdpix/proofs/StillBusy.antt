@@ -1,5 +1,5 @@
 -- Tries that found an operation still to come.
-use Rattle.std.proofs.Common.{◌≡◌, ◌≢◌, ℕ, zero, suc, ◌+◌, ◌<◌, List, [], ◌∷◌, ◌++◌, length, length-append, get_or, replicate, refl, ap, sym, subst, ◌∙◌, append_assoc, append-nil, arith}
+use Rattle.std.proofs.Common.{◌≡◌, ℕ, zero, suc, ◌+◌, ◌<◌, List, [], ◌∷◌, ◌++◌, length, length-append, get_or, replicate, refl, ap, sym, subst, ◌∙◌, append_assoc, append-nil, arith}
 use Rattle.demi_port_core.specs.declared.place.QToken.{QToken}
 use Rattle.demi_pdpix.specs.declared.outcomes.Answer.{Answer}
 use Rattle.demi_pdpix.specs.declared.outcomes.Answer.TheVariants.{Ready as Got, NotYet as Busy, Spent as Over, Unknown as NoSuch}

@@ -5,7 +5,7 @@ use Rattle.demi_port_core.specs.Phases.{last_round}
 use Rattle.demi_port_core.specs.Told.{clear}
 use Rattle.demi_port_core.specs.Trails.{Behind}
 use Rattle.demi_port_core.specs.Words.{token_word}
-use Rattle.demi_port.specs.Seen.{Found, Later, PassValue, PortId, Saw, known_by}
+use Rattle.demi_port.specs.Seen.{Found, Later, PassValue, Saw, known_by}
 use Rattle.demi_port.specs.declared.redeem.Redeem.{Redeem}
 use Rattle.demi_port.specs.declared.redeem.Redeem.TheVariants.{Ready as Come, NotYet as Busy, Spent as Over, Unknown as NoSuch}
 use Rattle.demi_memq.specs.declared.out.MemOut.{MemOut}

@@ -1,11 +1,11 @@
 -- What a call asks of the port that it names, or why it is refused.
-use Rattle.std.specs.Prelude.{ℕ, ◌==◌, ◌||◌, nat_lt, Bool, cond, List, Option, Some, None, Ok, Err, Result}
+use Rattle.std.specs.Prelude.{ℕ, ◌==◌, ◌||◌, nat_lt, cond, List, Option, Some, None, Ok, Err, Result}
 use Rattle.demi_heap.specs.Seen.{HalfValue}
 use Rattle.demi_memq.specs.Said.{array_said}
 use Rattle.demi_memq.specs.declared.op.MemOp.{MemOp}
 use Rattle.demi_memq.specs.declared.op.MemOp.TheVariants.{Push as PushMem, Pop as PopMem, Close as CloseMem, Stop as StopMem}
 use Rattle.demi_logq.specs.declared.op.LogOp.{LogOp}
-use Rattle.demi_logq.specs.declared.op.LogOp.TheVariants.{Push as PushLog, Pop as PopLog, Seek, Truncate, Stop as StopLog}
+use Rattle.demi_logq.specs.declared.op.LogOp.TheVariants.{Push as PushLog, Pop as PopLog, Stop as StopLog}
 use Rattle.demi_streamq.specs.declared.rx_op.RxOp.{RxOp}
 use Rattle.demi_streamq.specs.declared.rx_op.RxOp.TheVariants.{Pop as PopRx, Stop as StopRx}
 use Rattle.demi_streamq.specs.declared.tx_op.TxOp.{TxOp}

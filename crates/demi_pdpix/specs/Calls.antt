@@ -1,10 +1,9 @@
 -- What a call that submits tells of the caller that it used.
-use Rattle.std.specs.Prelude.{◌≡◌, ◌≢◌, ℕ, ◌+◌, ◌<◌, ◌≤◌, List, [], ◌∷◌, ◌++◌, length, slice_set, slice_index_or}
+use Rattle.std.specs.Prelude.{◌≡◌, ◌≢◌, ℕ, ◌+◌, ◌<◌, ◌≤◌, List, [], ◌∷◌, ◌++◌, slice_set, slice_index_or}
 use Rattle.demi_port_core.specs.History.{Each}
 use Rattle.demi_port.specs.Seen.{InRange, Later, Missed, OnlyLooked, PassValue}
-use Rattle.demi_heap.specs.Seen.{PassValue as HeapPassValue}
 use Rattle.demi_sga.specs.Arrays.{loaned_by, returned_by}
-use Rattle.demi_pdpix.specs.Asks.{Asked, bad_qd, bad_size, to_memory, to_log, to_receiver, to_sender}
+use Rattle.demi_pdpix.specs.Asks.{Asked, to_memory, to_log, to_receiver, to_sender}
 use Rattle.demi_pdpix.specs.declared.kind.PortKind.{PortKind}
 use Rattle.demi_pdpix.specs.declared.kind.PortKind.TheVariants.{Memory, Service, Journal, Receiving, Sending, Nowhere}
 use Rattle.demi_pdpix.specs.Seen.{CallerValue}

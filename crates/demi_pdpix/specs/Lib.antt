@@ -13,3 +13,4 @@ pub mod Together
 pub mod Notes
 pub mod Owing
 pub mod InTests
+pub mod Alone

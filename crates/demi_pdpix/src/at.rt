@@ -97,11 +97,7 @@ pub(crate) fn scan_at<L: Law>(
 }
 
 // The pass learns what another has seen.
-pub(crate) fn learn_port<L: Law>(
-    port: &Port<L>,
-    pass: &mut PortPass<L>,
-    from: &mut PortPass<L>,
-)
+pub(crate) fn learn_port<L: Law>(port: &Port<L>, pass: &mut PortPass<L>, from: &mut PortPass<L>)
     requires port { (pass.old.port ≡ port.now) × (from.old.port ≡ port.now) }
     ensures pass { pass.new ≡ learnt pass.old from.old }
     ensures from { from.new ≡ noted from.old }

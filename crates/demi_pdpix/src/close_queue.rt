@@ -47,9 +47,7 @@ impl<X: Law> Demi<X> {
         match self.submit_tx(caller, port, k, TxOp::Close) {
             Ok(token) => Ok(token),
             Err(op) => {
-                let TxOp::Close = op else {
-                    unreachable!()
-                };
+                let TxOp::Close = op else { unreachable!() };
                 Err(PopRefused::TokensFull)
             }
         }
@@ -74,10 +72,8 @@ impl<X: Law> Demi<X> {
                     Err(PopRefused::BadQd)
                 }
             }
-            PortKind::Service
-            | PortKind::Journal
-            | PortKind::Receiving(_)
-            | PortKind::Nowhere => Err(PopRefused::BadQd),
+            PortKind::Service | PortKind::Journal | PortKind::Receiving(_) | PortKind::Nowhere =>
+                Err(PopRefused::BadQd),
         }
     }
 }

@@ -52,9 +52,7 @@ impl<X: Law> Demi<X> {
         match self.submit_journal(caller, LogOp::Pop) {
             Ok(token) => Ok(token),
             Err(op) => {
-                let LogOp::Pop = op else {
-                    unreachable!()
-                };
+                let LogOp::Pop = op else { unreachable!() };
                 Err(PopRefused::TokensFull)
             }
         }

@@ -23,9 +23,7 @@ impl<X: Law> Demi<X> {
         match self.submit_memory(caller, MemOp::Queue) {
             Ok(token) => Ok(token),
             Err(op) => {
-                let MemOp::Queue = op else {
-                    unreachable!()
-                };
+                let MemOp::Queue = op else { unreachable!() };
                 Err(TokensFullNow)
             }
         }

@@ -30,9 +30,7 @@ impl<X: Law> Demi<X> {
         match self.submit_memory(caller, MemOp::Stop) {
             Ok(token) => Ok(token),
             Err(op) => {
-                let MemOp::Stop = op else {
-                    unreachable!()
-                };
+                let MemOp::Stop = op else { unreachable!() };
                 Err(PopRefused::TokensFull)
             }
         }
@@ -49,9 +47,7 @@ impl<X: Law> Demi<X> {
         match self.submit_journal(caller, LogOp::Stop) {
             Ok(token) => Ok(token),
             Err(op) => {
-                let LogOp::Stop = op else {
-                    unreachable!()
-                };
+                let LogOp::Stop = op else { unreachable!() };
                 Err(PopRefused::TokensFull)
             }
         }
@@ -82,9 +78,7 @@ impl<X: Law> Demi<X> {
         match self.submit_tx(caller, port, k, TxOp::Stop) {
             Ok(token) => Ok(token),
             Err(op) => {
-                let TxOp::Stop = op else {
-                    unreachable!()
-                };
+                let TxOp::Stop = op else { unreachable!() };
                 Err(PopRefused::TokensFull)
             }
         }

@@ -26,11 +26,7 @@ pub(crate) fn at_port(port: u16, token: Token) -> QToken
 
 impl<X: Law> Demi<X> {
     // Submits to the memory queues.
-    pub(crate) fn submit_memory(
-        &self,
-        caller: &mut Caller<X>,
-        op: MemOp,
-    ) -> Result<QToken, MemOp>
+    pub(crate) fn submit_memory(&self, caller: &mut Caller<X>, op: MemOp) -> Result<QToken, MemOp>
         requires of { IsOf self.now caller.old }
         requires proper { IsMemProper self.now.heap op }
         ensures of { IsOf self.now caller.new }
@@ -44,11 +40,7 @@ impl<X: Law> Demi<X> {
     }
 
     // Submits to the log's queue.
-    pub(crate) fn submit_journal(
-        &self,
-        caller: &mut Caller<X>,
-        op: LogOp,
-    ) -> Result<QToken, LogOp>
+    pub(crate) fn submit_journal(&self, caller: &mut Caller<X>, op: LogOp) -> Result<QToken, LogOp>
         requires of { IsOf self.now caller.old }
         requires there { 0 < length self.now.journal }
         requires proper { (b : LogBasis) → b.heap ≡ self.now.heap → IsLogProper b op }

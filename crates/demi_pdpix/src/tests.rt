@@ -3,3 +3,6 @@ mod crew;
 mod doubler;
 mod talking;
 mod whole;
+mod redeeming;
+mod refusing;
+mod rows;

@@ -1,6 +1,4 @@
-use Rattle.std.proofs.Common.{◌≡◌, ◌<◌, ◌+◌, ℕ, suc, add-one, length, get_or, set, sym, ◌∙◌, ap, subst, arith}
-use Rattle.demi_port.specs.Seen.{PassValue}
-use Rattle.demi_pdpix.specs.Notes.{learnt}
+use Rattle.std.proofs.Common.{◌≡◌, ◌<◌, add-one, length, get_or, set, sym, ◌∙◌, ap, arith}
 use Rattle.demi_pdpix.proofs.Columns.{as_many, at_port}
 use Rattle.demi_pdpix.proofs.Learning.{learnt_all, learnt_at, learnt_many, learnt_next, learnt_to, noted_all, noted_at, noted_many, noted_next, noted_to}
 use Rattle.demi_pdpix.proofs.at.learn_each.Goals as goal

@@ -1,4 +1,4 @@
-use Rattle.std.proofs.Common.{◌<◌, length, sym, ◌∙◌, ap, subst, arith}
+use Rattle.std.proofs.Common.{◌<◌, length, sym, ◌∙◌, ap, arith}
 use Rattle.demi_pdpix.proofs.Columns.{as_many, at_port, changed_to, still_at}
 use Rattle.demi_pdpix.specs.Calls.{FoundNone, Submitted}
 use Rattle.demi_pdpix.proofs.at.submit_at.Goals as goal

@@ -1,4 +1,4 @@
-use Rattle.std.proofs.Common.{◌≡◌, suc, replicate, sym, subst}
+use Rattle.std.proofs.Common.{suc, replicate, sym, subst}
 use Rattle.demi_pdpix.specs.Seen.{CallerValue, IsOf}
 use Rattle.demi_pdpix.specs.Tries.{AllBusy, Waited}
 use Rattle.demi_pdpix.proofs.StillBusy.{busy_of, busy_snoc, replicate_snoc}

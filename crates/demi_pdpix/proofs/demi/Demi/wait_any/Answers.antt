@@ -1,4 +1,4 @@
-use Rattle.std.proofs.Common.{◌≡◌, suc, sym, subst}
+use Rattle.std.proofs.Common.{suc, sym, subst}
 use Rattle.demi_pdpix.specs.Several.{TriedAny, WaitedAny, rounds}
 use Rattle.demi_pdpix.specs.Seen.{CallerValue, IsOf}
 use Rattle.demi_pdpix.specs.Tries.{AllBusy}
