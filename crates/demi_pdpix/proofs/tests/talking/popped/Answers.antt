@@ -1,0 +1,5 @@
+use Rattle.demi_pdpix.proofs.Outstanding.{owes_more}
+use Rattle.demi_pdpix.proofs.tests.talking.popped.Goals as goal
+
+pub returns-clause-owes : goal.returns-clause-owes
+returns-clause-owes g c who rest owes = let e = c.in-Ok.ensures in owes_more c.args.demi.now who rest c.args.caller.now c.pop.new.caller e.of c.in-Ok.token c.args.qd.port _ e.ok.0 e.ok.1 owes

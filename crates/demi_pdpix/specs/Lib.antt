@@ -1,0 +1,16 @@
+pub mod Seen
+pub mod Kinds
+pub mod Lanes
+pub mod Making
+pub mod Returning
+pub mod Closing
+pub mod Calls
+pub mod Asks
+pub mod Answers
+pub mod Tries
+pub mod Several
+pub mod Together
+pub mod Notes
+pub mod Owing
+pub mod InTests
+pub mod Alone

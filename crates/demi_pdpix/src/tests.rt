@@ -1,0 +1,5 @@
+mod doubler;
+mod redeeming;
+mod refusing;
+mod rows;
+mod talking;
