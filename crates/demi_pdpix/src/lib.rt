@@ -41,6 +41,7 @@ mod seats;
 mod seeking;
 mod stop;
 mod submitting;
+#[cfg(test)]
 mod tests;
 mod trying;
 mod waiting;
