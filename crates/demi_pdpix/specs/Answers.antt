@@ -5,7 +5,7 @@ use Rattle.demi_port_core.specs.Phases.{last_round}
 use Rattle.demi_port_core.specs.Told.{clear}
 use Rattle.demi_port_core.specs.Trails.{Behind}
 use Rattle.demi_port_core.specs.Words.{token_word}
-use Rattle.demi_port.specs.Seen.{Found, Later, PassValue, Saw, known_by}
+use Rattle.demi_port.specs.Seen.{Found, Later, PassValue, Saw, StandsOn, known_by}
 use Rattle.demi_port.specs.declared.redeem.Redeem.{Redeem}
 use Rattle.demi_port.specs.declared.redeem.Redeem.TheVariants.{Ready as Come, NotYet as Busy, Spent as Over, Unknown as NoSuch}
 use Rattle.demi_memq.specs.declared.out.MemOut.{MemOut}
@@ -65,13 +65,15 @@ Cases Spent R N S U = S
 Cases Unknown R N S U = U
 
 -- The pass p found the token done, redeemed it, and became q: an outcome of this place is admitted by what q was handed, the place is that of the token's operation
--- where p submitted it, and p had not redeemed the token. What p knew is never taken back.
+-- where p submitted it, and p had not redeemed the token. By itself the outcome stands on what q was handed with it, which says at the place what p submitted there.
+-- What p knew is never taken back.
 pub record Redeemed {D T B : Type 0} (admits : List D → List (ℕ × T) → ℕ → Type 0) (token place : ℕ) (p q : PassValue D T B) : Type 0 where
   pub admitted : admits q.heard q.trail place
   pub below : place < q.floor
   pub pass : q ≡ record p { clock = q.clock; looks = q.looks; redeemed = p.redeemed ++ (place, token) ∷ []; owes = clear (token % 1024) p.owes; heard = q.heard; trail = q.trail; floor = q.floor }
   pub done : Saw p q (token_word (token % 1024)) (token / 1024 * 8 + 2)
   pub own : (k : ℕ) (d : D) → Among (k, (token, d)) p.submitted → k ≡ place
+  pub stands : StandsOn admits token place p q
   pub once : times token p.redeemed ≡ 0
   pub later : Later p q
   pub grows : Behind (known_by q) (known_by p)

@@ -13,7 +13,7 @@ use Rattle.demi_port_core.specs.Seats.{submitted, bare_view}
 use Rattle.demi_port_core.specs.Told.{OwesNothing, clear}
 use mathlib.Core.Option.{some}
 use lib.ListN.{get_elem?}
-use Rattle.demi_port_core.specs.Trails.{StartsWith}
+use Rattle.demi_port_core.specs.Trails.{Behind, StartsWith}
 use Rattle.demi_port.specs.declared.key.Key.{Key}
 use Rattle.demi_port_core.specs.Words.{token_word}
 
@@ -138,6 +138,15 @@ IsNewPass port n p = p ≡ record { port = port; number = n; seen = 0; submitted
 -- of what a pass knows of the outside
 abbrev pub known_by : {D T B : Type 0} → PassValue D T B → Trail D T
 known_by p = record { device = false; heard = p.heard; told = p.trail; floor = p.floor; handed = [] }
+
+-- What an outcome at the place stands on by itself: a ground and a trail that the pass had been handed when it was q, by which the outcome is admitted.
+-- What that ground says at the place is what the pass submitted there with the token, when it was p
+pub record StandsOn {D T B : Type 0} (admits : List D → List (ℕ × T) → ℕ → Type 0) (token place : ℕ) (p q : PassValue D T B) : Type 0 where
+  pub known : Trail D T
+  pub handed : Behind (known_by q) known
+  pub admitted : admits known.heard known.told place
+  pub below : place < known.floor
+  pub said : (d x : D) → Among (place, (token, d)) p.submitted → get_elem? known.heard place ≡ some x → x ≡ d
 
 -- at a step of a call that brought the pass from v to w, it found a word of the token's index, of which F holds. Nothing else changed, but that a look at a token that is not done pays what the pass owed of it
 abbrev pub Found : {D T B : Type 0} → PassValue D T B → PassValue D T B → ℕ → (ℕ → Type 0) → Type 0

@@ -5,7 +5,8 @@ ghost use Rattle.demi_port_core.specs.Phases.{last_round, token_of};
 ghost use Rattle.demi_port_core.specs.Told.{clear, looking, idling, redeems, glanced, FoundWord, SameSeat};
 ghost use Rattle.demi_port_core.specs.Trails.{Behind, caught_up, handed_over, as_trail};
 ghost use Rattle.demi_port.specs.Tries.{IfReady, IfNotYet, IfSpent, IfUnknown};
-ghost use Rattle.demi_port.specs.Seen.{Later, Saw, Found, known_by};
+ghost use Rattle.demi_port.specs.Seen.{Later, Saw, Found, StandsOn, known_by};
+ghost use Rattle.demi_port_core.specs.Entries.{IsFetched};
 ghost use Rattle.demi_port_core.specs.declared.view.Role.TheVariants.{Pass};
 ghost use Rattle.demi_port_core.specs.declared.view.Stage.TheVariants.{Idle};
 ghost use Rattle.demi_port_core.specs.Answers.{Admitted};
@@ -32,6 +33,7 @@ impl<L: Law> Port<L> {
         ensures redeemed { IfReady result (λ p _. pass.new ≡ record pass.old { clock = pass.new.clock; looks = pass.new.looks; redeemed = pass.old.redeemed ++ (p, token.0) ∷ []; owes = clear (token.0 % 1024) pass.old.owes; heard = pass.new.heard; trail = pass.new.trail; floor = pass.new.floor }) }
         ensures done { IfReady result (λ _ _. Saw pass.old pass.new (token_word (token.0 % 1024)) (token.0 / 1024 * 8 + 2)) }
         ensures own { IfReady result (λ p _. (q : ℕ) (d : L.Said) → Among (q, (token.0, d)) pass.old.submitted → q ≡ p) }
+        ensures said { IfReady result (λ p out. StandsOn (λ h t n. L.admits self.now.key.base h t n out) token.0 p pass.old pass.new) }
         ensures once { IfReady result (λ _ _. times token.0 pass.old.redeemed ≡ 0) }
         ensures looks { Later pass.old pass.new }
         ensures grows { Behind (known_by pass.new) (known_by pass.old) }
@@ -68,7 +70,7 @@ impl<L: Law> Tables<L> {
         requires port { (pass.old.seat.table_id ≡ self.now.table.shared.table_id) × (pass.old.record.table_id ≡ self.now.records.shared.table_id) × (pass.old.seat.me.0.key ≡ Some self.now.table.shared.key) }
         requires at { (index < self.now.count) × (round < last_round) }
         requires idle { (pass.old.seat.me.0.stage ≡ Idle) × (pass.old.seat.me.1 ≡ []) × (pass.old.record.me.0.device ≡ false) × (pass.old.record.me.0.handed ≡ []) × (pass.old.seat.me.0.role ≡ Pass) }
-        ensures ready { IfOk result (λ r. (log : List (ℕ × (ℕ × L.Said))) × (v : Trail L.Said L.Told) × Admitted (L.admits self.now.table.shared.key.base) log r.0 r.1 v × (pass.new.record.me.0 ≡ caught_up pass.old.record.me.0 (handed_over v)) × Behind pass.new.record.me.0 pass.old.record.me.0 × Behind pass.new.record.me.0 (as_trail (handed_over v))) }
+        ensures ready { IfOk result (λ r. (log : List (ℕ × (ℕ × L.Said))) × (v : Trail L.Said L.Told) × Admitted (L.admits self.now.table.shared.key.base) log r.0 r.1 v × (pass.new.record.me.0 ≡ caught_up pass.old.record.me.0 (handed_over v)) × Behind pass.new.record.me.0 pass.old.record.me.0 × Behind pass.new.record.me.0 (as_trail (handed_over v)) × ((q : ℕ) (d : L.Said) → Among (q, (token_of round index, d)) pass.old.seat.me.0.mine → IsFetched log (q, (token_of round index, d)))) }
         ensures done { IfOk result (λ r. (t : ℕ) × (pass.old.seat.me.0.clock ≤ t) × (pass.new.seat.me.0 ≡ idling (redeems index round r.0 (looking t (token_word index) (round * 8 + 2) pass.old.seat.me.0))) × (pass.new.seat.me.1 ≡ [])) }
         ensures still { SameSeat pass.old.seat.me.0 pass.new.seat.me.0 × (pass.new.record.me.0.device ≡ false) × (pass.new.record.me.0.handed ≡ []) }
         ensures grows { Behind pass.new.record.me.0 pass.old.record.me.0 }
@@ -108,7 +110,7 @@ impl<L: Law> Tables<L> {
         requires port { (pass.old.seat.table_id ≡ self.now.table.shared.table_id) × (pass.old.record.table_id ≡ self.now.records.shared.table_id) × (pass.old.seat.me.0.key ≡ Some self.now.table.shared.key) }
         requires idle { (pass.old.seat.me.0.stage ≡ Idle) × (pass.old.seat.me.1 ≡ []) × (pass.old.record.me.0.device ≡ false) × (pass.old.record.me.0.handed ≡ []) × (pass.old.seat.me.0.role ≡ Pass) }
         ensures port { (pass.new.seat.table_id ≡ pass.old.seat.table_id) × (pass.new.record.table_id ≡ pass.old.record.table_id) × (pass.new.seat.me.1 ≡ []) × (pass.new.record.me.1 ≡ pass.old.record.me.1) }
-        ensures ready { IfReady result (λ p out. (log : List (ℕ × (ℕ × L.Said))) × (v : Trail L.Said L.Told) × Admitted (L.admits self.now.table.shared.key.base) log p out v × (pass.new.record.me.0 ≡ caught_up pass.old.record.me.0 (handed_over v)) × Behind pass.new.record.me.0 pass.old.record.me.0 × Behind pass.new.record.me.0 (as_trail (handed_over v))) }
+        ensures ready { IfReady result (λ p out. (log : List (ℕ × (ℕ × L.Said))) × (v : Trail L.Said L.Told) × Admitted (L.admits self.now.table.shared.key.base) log p out v × (pass.new.record.me.0 ≡ caught_up pass.old.record.me.0 (handed_over v)) × Behind pass.new.record.me.0 pass.old.record.me.0 × Behind pass.new.record.me.0 (as_trail (handed_over v)) × ((q : ℕ) (d : L.Said) → Among (q, (token, d)) pass.old.seat.me.0.mine → IsFetched log (q, (token, d)))) }
         ensures redeemed { IfReady result (λ p _. (t : ℕ) × (pass.old.seat.me.0.clock ≤ t) × (pass.new.seat.me.0 ≡ idling (redeems (token % 1024) (token / 1024) p (looking t (token_word (token % 1024)) (token / 1024 * 8 + 2) pass.old.seat.me.0)))) }
         ensures still { SameSeat pass.old.seat.me.0 pass.new.seat.me.0 × (pass.new.record.me.0.device ≡ false) × (pass.new.record.me.0.handed ≡ []) }
         ensures grows { Behind pass.new.record.me.0 pass.old.record.me.0 }
