@@ -50,7 +50,7 @@ impl<X: Law> Demi<X> {
     {
         for _ in rt.forever() {
             match self.try_wait_any(caller, tokens) {
-                Any::NotYet => self.idle(rt, caller),
+                Any::NotYet => self.park(rt, caller),
                 answer => {
                     self.busy(caller);
                     return answer;

@@ -10,15 +10,17 @@ use demi_port_core::{Law, QToken};
 use std::sync::Wait;
 
 impl<X: Law> Demi<X> {
-    // After a look that found nothing.
-    pub(crate) fn idle<R: Wait>(&self, rt: &R, caller: &mut Caller<X>)
+    /// Waits a little after a try or a scan of this caller that found nothing: it spins, lets other threads run, gets ready to sleep,
+    /// or sleeps until something is finished at any port of this `Demi`. The caller then looks again before it parks again; so
+    /// nothing that is finished is slept over. Nothing changes by it, and when it returns is not promised.
+    pub fn park<R: Wait>(&self, rt: &R, caller: &mut Caller<X>)
         ensures { caller.new ≡ caller.old }
     {
         caller.patience.idle(rt, &self.bells);
     }
 
-    // After a look that found something.
-    pub(crate) fn busy(&self, caller: &mut Caller<X>)
+    /// After a look that found something: the caller parks from the beginning again. Nothing else changes by it.
+    pub fn busy(&self, caller: &mut Caller<X>)
         ensures { caller.new ≡ caller.old }
     {
         caller.patience.busy(&self.bells);
@@ -33,7 +35,7 @@ impl<X: Law> Demi<X> {
     {
         for _ in rt.forever() {
             match self.try_wait(caller, token) {
-                Answer::NotYet => self.idle(rt, caller),
+                Answer::NotYet => self.park(rt, caller),
                 other => {
                     self.busy(caller);
                     return other;

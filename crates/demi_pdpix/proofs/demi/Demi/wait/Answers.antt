@@ -7,8 +7,8 @@ use Rattle.demi_pdpix.proofs.demi.Demi.wait.Goals as goal
 pub loop-preserved : goal.loop-preserved
 loop-preserved g c = let v = c.loop.invariant in let n = v.0 in let d = c.args.self.now in let t = c.args.token in (
   suc n,
-  subst (IsOf d) (sym c.idle.ensures) c.try_wait.ensures.of,
-  subst (λ (e : CallerValue _ _ _). AllBusy d (replicate (suc n) t) c.args.caller.now e) (sym c.idle.ensures)
+  subst (IsOf d) (sym c.park.ensures) c.try_wait.ensures.of,
+  subst (λ (e : CallerValue _ _ _). AllBusy d (replicate (suc n) t) c.args.caller.now e) (sym c.park.ensures)
       (subst (λ ts. AllBusy d ts c.args.caller.now c.try_wait.new.caller) (replicate_snoc n t)
       (busy_snoc d (replicate n t) t c.args.caller.now c.loop.caller c.try_wait.new.caller v.2
       (busy_of g.X.Law.admits d t c.loop.caller c.try_wait.new.caller c.try_wait.result c.in-NotYet.is c.try_wait.ensures.tried))),

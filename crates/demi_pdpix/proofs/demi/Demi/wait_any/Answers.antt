@@ -9,8 +9,8 @@ pub loop-preserved : goal.loop-preserved
 loop-preserved g c = let v = c.loop.invariant in let n = v.0 in let d = c.args.self.now in let ts = c.args.tokens.now in
     let round = subst (TriedAny g.X.Law.admits d ts c.loop.caller c.try_wait_any.new.caller) c.in-NotYet.is c.try_wait_any.ensures.tried in (
       suc n,
-      subst (IsOf d) (sym c.idle.ensures) c.try_wait_any.ensures.of,
-      subst (λ (e : CallerValue _ _ _). AllBusy d (rounds (suc n) ts) c.args.caller.now e) (sym c.idle.ensures)
+      subst (IsOf d) (sym c.park.ensures) c.try_wait_any.ensures.of,
+      subst (λ (e : CallerValue _ _ _). AllBusy d (rounds (suc n) ts) c.args.caller.now e) (sym c.park.ensures)
           (subst (λ us. AllBusy d us c.args.caller.now c.try_wait_any.new.caller) (rounds_snoc n ts)
           (busy_append d (rounds n ts) ts c.args.caller.now c.loop.caller c.try_wait_any.new.caller v.2 round.1)),
     )
