@@ -3,6 +3,7 @@ use Rattle.std.specs.Prelude.{◌≡◌, ℕ, ◌++◌, List, [], ◌∷◌, Opt
 use Rattle.std.proofs.Common.{sym, ◌∙◌, ap, subst, inl, inr, append-nil, append_assoc}
 use Rattle.demi_port_core.specs.Trails.{StartsWith}
 use Rattle.demi_link.specs.Causes.{Caused, EndsFor, IsCause, LastIs}
+use Rattle.demi_link.specs.Dues.{AllMore}
 use Rattle.demi_link.specs.Events.{Adds, Event}
 use Rattle.demi_link.specs.Fitting.{Fits, IsBehind}
 use Rattle.demi_link.specs.Sights.{Sight}
@@ -59,16 +60,16 @@ pub same_on : (a b : List Event) → b ≡ a → (c : List Event) → (c ≡ b) 
 same_on a b e c f = f ∙ e
 
 -- what stands behind a reply is so whatever the link noted of its replies
-pub behind_same : (behind : Option Cause) (d e : DeskValue) → e.decoder ≡ d.decoder → e.talk.request ≡ d.talk.request → e.talk.refused ≡ d.talk.refused → IsBehind behind d → IsBehind behind e
-behind_same None d e dec req ref h = (ref ∙ h.0, ap (λ x. x.stop) dec ∙ h.1)
-behind_same (Some cause.Clean) d e dec req ref h = h
-behind_same (Some cause.Bye) d e dec req ref h = (req ∙ h.0, ref ∙ h.1, ap (λ x. x.stop) dec ∙ h.2)
-behind_same (Some (cause.Refused code)) d e dec req ref h = (req ∙ h.0, ref ∙ h.1)
-behind_same (Some cause.ReadFault) d e dec req ref h = h
-behind_same (Some cause.WriteFault) d e dec req ref h = h
-behind_same (Some cause.LogFault) d e dec req ref h = h
-behind_same (Some cause.NoMemory) d e dec req ref h = h
-behind_same (Some cause.Lost) d e dec req ref h = h
+pub behind_same : (behind : Option Cause) (d e : DeskValue) → e.decoder ≡ d.decoder → e.talk.request ≡ d.talk.request → e.talk.refused ≡ d.talk.refused → e.talk.outs ≡ d.talk.outs → IsBehind behind d → IsBehind behind e
+behind_same None d e dec req ref outs h = (ref ∙ h.0, ap (λ x. x.stop) dec ∙ h.1, subst AllMore (sym outs) h.2)
+behind_same (Some cause.Clean) d e dec req ref outs h = h
+behind_same (Some cause.Bye) d e dec req ref outs h = (req ∙ h.0, ref ∙ h.1, ap (λ x. x.stop) dec ∙ h.2)
+behind_same (Some (cause.Refused code)) d e dec req ref outs h = (req ∙ h.0, ref ∙ h.1)
+behind_same (Some cause.ReadFault) d e dec req ref outs h = h
+behind_same (Some cause.WriteFault) d e dec req ref outs h = h
+behind_same (Some cause.LogFault) d e dec req ref outs h = h
+behind_same (Some cause.NoMemory) d e dec req ref outs h = h
+behind_same (Some cause.Lost) d e dec req ref outs h = h
 
 -- the last event is the cause
 pub caused_at : (a b : List Event) (index : ℕ) (phase : Phase) (e : Event) → Adds a b e → IsCause phase e → Caused a b index phase

@@ -40,13 +40,14 @@ sight_asked a d op place token = record a {
   store = record a.store { seen = place + 1; submitted = a.store.submitted ++ (place, (token, record { sequence = length a.draws + 1; op = op })) ∷ [] };
   draws = a.draws ++ draw_of d ∷ [];
   out = a.out - halves_in op;
+  due = a.due + 1;
 }
 
 pub asked_sight : (a b : Sight) (d : DeskValue) (op : StoreOp) (place token sequence : ℕ) → sequence ≡ length a.draws + 1 → Submits place a.store b.store token (record { sequence = sequence; op = op })
-    → b ≡ record a { store = b.store; draws = a.draws ++ draw_of d ∷ []; out = a.out - halves_in op } → b ≡ sight_asked a d op place token
+    → b ≡ record a { store = b.store; draws = a.draws ++ draw_of d ∷ []; out = a.out - halves_in op; due = a.due + 1 } → b ≡ sight_asked a d op place token
 asked_sight a b d op place token sequence number sub only =
-    only ∙ ap (λ (x : Side StoreAsk StoreTold). record a { store = x; draws = a.draws ++ draw_of d ∷ []; out = a.out - halves_in op }) sub.side
-    ∙ ap (λ (n : ℕ). record a { store = record a.store { seen = place + 1; submitted = a.store.submitted ++ (place, (token, record { sequence = n; op = op })) ∷ [] }; draws = a.draws ++ draw_of d ∷ []; out = a.out - halves_in op }) number
+    only ∙ ap (λ (x : Side StoreAsk StoreTold). record a { store = x; draws = a.draws ++ draw_of d ∷ []; out = a.out - halves_in op; due = a.due + 1 }) sub.side
+    ∙ ap (λ (n : ℕ). record a { store = record a.store { seen = place + 1; submitted = a.store.submitted ++ (place, (token, record { sequence = n; op = op })) ∷ [] }; draws = a.draws ++ draw_of d ∷ []; out = a.out - halves_in op; due = a.due + 1 }) number
 
 abbrev pub desk_drawn : DeskValue → TalkValue → DeskValue
 desk_drawn d talk = record d { index = d.index + 1; talk = talk }
@@ -79,6 +80,7 @@ asked_next ports a d half op place token f lt =
           here = among_last a.store.submitted x;
           drawn = last_drawn a.draws (draw_of d) (record { link = d.link; index = length d.talk.kept.replies; request = q }) (ap (λ (n : ℕ). record { link = d.link; index = n; request = q }) (sym even));
         },
+        (let e = g.9 in omega arith),
       );
       worker = worker_asked w d.link d.talk.kept.drawn q op place token.token.0 f.worker k.own asks;
       keeps = record {
@@ -91,6 +93,7 @@ asked_next ports a d half op place token f lt =
         writes = record { pushes = k.writes.pushes; texts = k.writes.texts; rises = k.writes.rises; below = k.writes.below; written = k.writes.written };
         read = k.read;
         refusal = k.refusal;
+        due = k.due;
       };
     }
 
@@ -134,6 +137,7 @@ plain_next ports s b d kind count behind sga sequence z h is_behind none fits nu
         subst (λ (x : HeapId). AreOf x sga) heap_is heap,
         spelled,
         record { worker = (let n = k.number.2 in let m = k.number.0 in omega arith); sequence = most; answer = fits },
+        g.6,
       );
       worker = worker_drawn w d.link d.talk.kept.drawn q f.worker k.own;
       keeps = record {
@@ -146,5 +150,6 @@ plain_next ports s b d kind count behind sga sequence z h is_behind none fits nu
         writes = record { pushes = k.writes.pushes; texts = k.writes.texts; rises = k.writes.rises; below = k.writes.below; written = k.writes.written };
         read = k.read;
         refusal = k.refusal;
+        due = k.due;
       };
     }))

@@ -1,7 +1,7 @@
 -- What a link that is over read and wrote.
 use Rattle.std.specs.Prelude.{◌≡◌, ◌⊎◌, ℕ, ◌+◌, ◌<◌, ◌≤◌, true, Bool, List, [], ◌∷◌, ◌++◌, Option, Some, None, IfSome, length, map, refl, slice_get}
 use Rattle.std.specs.List.{AllByRecursion}
-use Rattle.std.proofs.Common.{sym, ◌∙◌, ap, arith, subst, inl, inr, append-nil}
+use Rattle.std.proofs.Common.{sym, ◌∙◌, ap, arith, subst, inl, inr, append-nil, length-append}
 use Rattle.demi_device.specs.Serving.{RiseFrom}
 use Rattle.demi_frame.specs.Decoding.{Decoding}
 use Rattle.demi_frame.specs.Reading.{HasRead}
@@ -36,10 +36,13 @@ use Rattle.demi_link.specs.declared.phase.Phase.TheVariants.{Over, Reading}
 use Rattle.demi_link.proofs.Lists.{among_last}
 use Rattle.demi_link.proofs.Sides.{taken_grows, written_grows}
 
+no_outs : {A : Type 0} {B : Type 0} (before after : List A) (x : A) → [] ≡ before ++ x ∷ after → B
+no_outs before after x e = absurd (let l = ap length e in let m = length-append before (x ∷ after) in omega arith)
+
 -- a new link
 pub fresh_fits : (ports link worker : ℕ) (s : Sight) → WorkerKeeps (worker_of s) → s.number ≡ worker → worker ≤ 255 → IsFresh s link → Fits ports s (new_desk link worker) Reading
 fresh_fits ports link worker s w number low f = record {
-  agrees = ((refl, refl), (refl, refl), ap places f.pops, ap places f.pushes, f.out);
+  agrees = ((refl, refl, tt), (refl, refl), ap places f.pops, ap places f.pushes, f.out, f.due);
   worker = w;
   keeps = record {
     own = (first_link s.base (worker_of s) link worker f.draws).own;
@@ -62,6 +65,7 @@ fresh_fits ports link worker s w number low f = record {
     };
     read = record { text = refl; stops = tt };
     refusal = tt;
+    due = λ before after x e. no_outs before after x e;
   };
 }
 
@@ -117,6 +121,16 @@ none_out ports s d cause.WriteFault f known = f.agrees.2
 none_out ports s d cause.LogFault f known = f.agrees.2
 none_out ports s d cause.NoMemory f known = f.agrees.2
 none_out ports s d cause.Lost f known = absurd known
+
+pub none_due : (ports : ℕ) (s : Sight) (d : DeskValue) (c : Cause) → Fits ports s d (Over c) → IsKnown c → s.due ≡ 0
+none_due ports s d cause.Clean f known = f.agrees.6
+none_due ports s d cause.Bye f known = f.agrees.6
+none_due ports s d (cause.Refused code) f known = f.agrees.6
+none_due ports s d cause.ReadFault f known = f.agrees.5
+none_due ports s d cause.WriteFault f known = f.agrees.4
+none_due ports s d cause.LogFault f known = f.agrees.5
+none_due ports s d cause.NoMemory f known = f.agrees.5
+none_due ports s d cause.Lost f known = absurd known
 
 taken_all : (ports : ℕ) (s : Sight) (d : DeskValue) (c : Cause) → Fits ports s d (Over c) → IsKnown c → AllTaken s d
 taken_all ports s d cause.Clean f known = f.agrees.0

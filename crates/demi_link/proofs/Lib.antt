@@ -2,6 +2,7 @@ pub mod Arriving
 pub mod Asks
 pub mod Backs
 pub mod Bodies
+pub mod Dues
 pub mod Ended
 pub mod Found
 pub mod Frames

@@ -10,7 +10,7 @@ use Rattle.demi_port_core.specs.declared.place.QToken.{QToken}
 use Rattle.demi_spec.specs.Request.{Request}
 use Rattle.demi_spec.specs.Input.{Asked, Clean, Refused, Refused_end, Request_of, Parses}
 use Rattle.demi_streamq.specs.Receiving.{RxAdmits, RxAnswer, RxPop, RxRead, over, over_by, told_at, bytes_before}
-use Rattle.demi_streamq.specs.RxKept.{all_bytes, bytes_of, pieces_of}
+use Rattle.demi_streamq.specs.RxKept.{IsEnd, all_bytes, bytes_of, pieces_of}
 use Rattle.demi_streamq.specs.declared.rx_op.RxOp.{RxOp}
 use Rattle.demi_streamq.specs.declared.rx_op.RxOp.TheVariants.{Pop}
 use Rattle.demi_streamq.specs.declared.rx_out.RxOut.{RxOut}
@@ -19,6 +19,8 @@ use Rattle.demi_streamq.specs.declared.rx_told.RxTold.{RxTold}
 use Rattle.demi_streamq.specs.declared.rx_told.RxTold.TheVariants.{Bytes, AtEnd, Failed, Refused as NoPage}
 use Rattle.demi_served.specs.Keeps.{WorkerKeeps}
 use Rattle.demi_link.specs.Fitting.{Fits, IsHungry, Keeps, Noted, Took, places}
+use Rattle.demi_link.specs.Dues.{AllDue, IsMore}
+use Rattle.demi_link.specs.Heard.{IsReadFault, LastCame}
 use Rattle.demi_link.specs.Noting.{after_taken}
 use Rattle.demi_link.specs.Sights.{Side, Sight, Submits, worker_of}
 use Rattle.demi_link.specs.Talks.{DeskValue, TalkValue, read_by, refusal}
@@ -26,7 +28,8 @@ use Rattle.demi_link.specs.declared.phase.Cause.TheVariants as cause
 use Rattle.demi_link.specs.declared.phase.Kind.TheVariants as kind
 use Rattle.demi_link.specs.declared.phase.Phase.{Phase}
 use Rattle.demi_link.specs.declared.phase.Phase.TheVariants.{Reading, Popping, Asking, Over}
-use Rattle.demi_link.proofs.Lists.{among_last, places_next}
+use Rattle.demi_link.proofs.Dues.{due_again, due_taken}
+use Rattle.demi_link.proofs.Lists.{all_next, among_last, places_next}
 use Rattle.demi_link.proofs.Sides.{reads_popped, reads_taken}
 
 -- A pop asked for at most 4,096 bytes.
@@ -60,10 +63,10 @@ piece_fits h t p v is a = piece_answer _ (slice_get h p) (over p t) (told_at p t
 
 -- the sight once it popped
 abbrev pub sight_popped : Sight → ℕ → ℕ → Sight
-sight_popped a place token = record a { rx = record a.rx { seen = place + 1; submitted = a.rx.submitted ++ (place, (token, Pop 4096)) ∷ [] } }
+sight_popped a place token = record a { rx = record a.rx { seen = place + 1; submitted = a.rx.submitted ++ (place, (token, Pop 4096)) ∷ [] }; due = a.due + 1 }
 
-pub popped_sight : (a b : Sight) (place token : ℕ) → Submits place a.rx b.rx token (Pop 4096) → b ≡ record a { rx = b.rx } → b ≡ sight_popped a place token
-popped_sight a b place token sub only = only ∙ ap (λ (x : Side RxOp RxTold). record a { rx = x }) sub.side
+pub popped_sight : (a b : Sight) (place token : ℕ) → Submits place a.rx b.rx token (Pop 4096) → b ≡ record a { rx = b.rx; due = a.due + 1 } → b ≡ sight_popped a place token
+popped_sight a b place token sub only = only ∙ ap (λ (x : Side RxOp RxTold). record a { rx = x; due = a.due + 1 }) sub.side
 
 pub popped_next : (ports : ℕ) (a : Sight) (d : DeskValue) (place : ℕ) (token : QToken) → IsHungry ports a d → token.port < ports → a.rx.seen ≤ place → Fits ports (sight_popped a place token.token.0) d (Popping token)
 popped_next ports a d place token h lt up =
@@ -81,6 +84,8 @@ popped_next ports a d place token h lt up =
         record { place = place; last = places_next a.rx.submitted x ∙ ap (λ (l : List ℕ). l ++ place ∷ []) g.2; here = among_last a.rx.submitted x },
         g.3,
         g.4,
+        (let e = g.5 in omega arith),
+        h.due,
       );
       worker = f.worker;
       keeps = record {
@@ -93,6 +98,7 @@ popped_next ports a d place token h lt up =
         writes = record { pushes = k.writes.pushes; texts = k.writes.texts; rises = k.writes.rises; below = k.writes.below; written = k.writes.written };
         read = k.read;
         refusal = k.refusal;
+        due = k.due;
       };
     }
 
@@ -120,7 +126,14 @@ module _ (ports : ℕ) (s : Sight) (d : DeskValue) (place : ℕ) (o : RxOut) (t 
 
   -- the sight as what it was before, with the pass as it is
   abbrev there : Sight
-  there = record t.before { rx = s.rx; out = t.before.out + pieces_of o }
+  there = record t.before { rx = s.rx; out = t.before.out + pieces_of o; due = t.before.due - 1 }
+
+  -- each of its pops was due
+  pub all_due : AllDue now
+  all_due = due_taken d.talk place o t.fits.keeps.due t.fits.agrees.9
+
+  same_bytes : bytes_of o ≡ [] → all_bytes (d.talk.outs ++ (place, o) ∷ []) ≡ all_bytes d.talk.outs
+  same_bytes none = bytes_next d.talk.outs place o ∙ ap (λ (l : List ℕ). all_bytes d.talk.outs ++ l) none ∙ append-nil (all_bytes d.talk.outs)
 
   -- what it keeps where the outcome brought no bytes
   pub keeps_taken : bytes_of o ≡ [] → Keeps s (record d { talk = now })
@@ -132,16 +145,14 @@ module _ (ports : ℕ) (s : Sight) (d : DeskValue) (place : ℕ) (o : RxOut) (t 
     index = k.index;
     reads = reads_taken t.before.heap t.before.rx s.rx d.talk place t.token.token.0 o k.reads t.redeems;
     writes = record { pushes = k.writes.pushes; texts = k.writes.texts; rises = k.writes.rises; below = k.writes.below; written = k.writes.written };
-    read = subst (λ (l : List ℕ). HasRead l d.talk.handed d.decoder) (sym same_bytes) k.read;
+    read = subst (λ (l : List ℕ). HasRead l d.talk.handed d.decoder) (sym (same_bytes none)) k.read;
     refusal = IfSome_same d.talk.refused k.refusal;
+    due = all_due;
   })
     where
-      same_bytes : all_bytes (d.talk.outs ++ (place, o) ∷ []) ≡ all_bytes d.talk.outs
-      same_bytes = bytes_next d.talk.outs place o ∙ ap (λ (l : List ℕ). all_bytes d.talk.outs ++ l) none ∙ append-nil (all_bytes d.talk.outs)
-
       IfSome_same : (r : Option ℕ) → IfSome r (λ code. Parses d.talk.handed (Refused code) true (all_bytes d.talk.outs)) → IfSome r (λ code. Parses d.talk.handed (Refused code) true (all_bytes (d.talk.outs ++ (place, o) ∷ [])))
       IfSome_same None h = tt
-      IfSome_same (Some code) h = subst (λ (l : List ℕ). Parses d.talk.handed (Refused code) true l) (sym same_bytes) h
+      IfSome_same (Some code) h = subst (λ (l : List ℕ). Parses d.talk.handed (Refused code) true l) (sym (same_bytes none)) h
 
   -- and its worker keeps its own
   pub worker_taken : WorkerKeeps (worker_of s)
@@ -153,25 +164,32 @@ module _ (ports : ℕ) (s : Sight) (d : DeskValue) (place : ℕ) (o : RxOut) (t 
   pub none_out : pieces_of o ≡ 0 → s.out ≡ 0
   none_out e = let a = same_out in let b = t.fits.agrees.7 in omega arith
 
+  pub none_due : s.due ≡ 0
+  none_due = let a = ap (λ (x : Sight). x.due) t.is in let b = t.fits.agrees.8 in omega arith
+
   pub same_written : places s.tx.submitted ≡ d.talk.written
   same_written = ap (λ (x : Sight). places x.tx.submitted) t.is ∙ t.fits.agrees.6
 
   -- the link goes on
-  pub taken_hungry : bytes_of o ≡ [] → pieces_of o ≡ 0 → IsHungry ports s (record d { talk = now })
-  taken_hungry none no_piece = let g = t.fits.agrees in record {
+  pub taken_hungry : bytes_of o ≡ [] → pieces_of o ≡ 0 → IsMore o → IsHungry ports s (record d { talk = now })
+  taken_hungry none no_piece more = let g = t.fits.agrees in record {
     reading = record {
-      agrees = (g.0, g.1, all_taken, same_written, none_out no_piece);
+      agrees = ((g.0.0, g.0.1, all_next (λ (x : ℕ × RxOut). IsMore x.1) d.talk.outs (place, o) g.0.2 more), g.1, all_taken, same_written, none_out no_piece, none_due);
       worker = worker_taken;
       keeps = keeps_taken none;
     };
     room = g.2;
     hungry = g.3;
+    due = due_again d.talk place o (same_bytes none) more g.9;
   }
 
+  last_came : (P : RxOut → Type 0) → P o → LastCame P (d.talk.outs ++ (place, o) ∷ [])
+  last_came P is = record { before = d.talk.outs; last = (place, o); all = refl; is = is }
+
   -- or a read failed
-  pub taken_fault : bytes_of o ≡ [] → pieces_of o ≡ 0 → Fits ports s (record d { talk = now }) (Over cause.ReadFault)
-  taken_fault none no_piece = let g = t.fits.agrees in record {
-    agrees = (all_taken, same_written, none_out no_piece, g.1, g.0.0);
+  pub taken_fault : bytes_of o ≡ [] → pieces_of o ≡ 0 → IsReadFault o → Fits ports s (record d { talk = now }) (Over cause.ReadFault)
+  taken_fault none no_piece failed = let g = t.fits.agrees in record {
+    agrees = (all_taken, same_written, none_out no_piece, g.1, g.0.0, none_due, last_came IsReadFault failed);
     worker = worker_taken;
     keeps = keeps_taken none;
   }
@@ -181,9 +199,9 @@ module _ (ports : ℕ) (s : Sight) (d : DeskValue) (place : ℕ) (o : RxOut) (t 
   taken_lost none = record { agrees = tt; worker = worker_taken; keeps = keeps_taken none }
 
   -- or the input has ended
-  pub taken_clean : bytes_of o ≡ [] → pieces_of o ≡ 0 → Parses d.talk.handed Clean true (all_bytes (d.talk.outs ++ (place, o) ∷ [])) → Fits ports s (record d { talk = now }) (Over cause.Clean)
-  taken_clean none no_piece parses = let g = t.fits.agrees in record {
-    agrees = (all_taken, same_written, none_out no_piece, g.1, parses, g.0.0);
+  pub taken_clean : bytes_of o ≡ [] → pieces_of o ≡ 0 → IsEnd o → Parses d.talk.handed Clean true (all_bytes (d.talk.outs ++ (place, o) ∷ [])) → Fits ports s (record d { talk = now }) (Over cause.Clean)
+  taken_clean none no_piece at_end parses = let g = t.fits.agrees in record {
+    agrees = (all_taken, same_written, none_out no_piece, g.1, parses, g.0.0, none_due, last_came IsEnd at_end);
     worker = worker_taken;
     keeps = keeps_taken none;
   }
@@ -204,6 +222,7 @@ module _ (ports : ℕ) (s : Sight) (d : DeskValue) (place : ℕ) (o : RxOut) (t 
           all_taken,
           same_written,
           none_out no_piece,
+          none_due,
         );
         worker = worker_taken;
         keeps = record {
@@ -216,6 +235,7 @@ module _ (ports : ℕ) (s : Sight) (d : DeskValue) (place : ℕ) (o : RxOut) (t 
           writes = record { pushes = k.writes.pushes; texts = k.writes.texts; rises = k.writes.rises; below = k.writes.below; written = k.writes.written };
           read = k.read;
           refusal = parses;
+          due = k.due;
         };
       }
 
@@ -233,10 +253,11 @@ fed_next ports s z d place v decoder taken t freed all is reads =
     let whole : take taken v.bytes ≡ v.bytes = ap (λ (n : ℕ). take n v.bytes) all ∙ take_all (length v.bytes) v.bytes (omega arith) in
     let bytes : all_bytes d.talk.outs ++ take taken v.bytes ≡ all_bytes (d.talk.outs ++ (place, Piece v) ∷ []) = ap (λ (l : List ℕ). all_bytes d.talk.outs ++ l) whole ∙ sym (bytes_next d.talk.outs place (Piece v)) in
     let stop : decoder.stop ≡ None = ap (λ (x : Decoding). x.stop) is ∙ g.0.1 in
-    let there : z ≡ record t.before { rx = s.rx; out = t.before.out + 1 - 1 } = freed ∙ ap (λ (x : Sight). record x { out = x.out - 1 }) t.is in
+    let there : z ≡ record t.before { rx = s.rx; out = t.before.out + 1 - 1; due = t.before.due - 1 } = freed ∙ ap (λ (x : Sight). record x { out = x.out - 1 }) t.is in
     let none : t.before.out + 1 - 1 ≡ 0 = (let o = g.7 in omega arith) in
+    let settled : t.before.due - 1 ≡ 0 = (let o = g.8 in omega arith) in
     subst (λ (x : Sight). Fits ports x (record d { decoder = decoder; talk = after_taken d.talk place (Piece v) }) Reading) (sym there) (record {
-      agrees = ((g.0.0, stop), g.1, all_taken ports s d place (Piece v) t, g.6, none);
+      agrees = ((g.0.0, stop, all_next (λ (x : ℕ × RxOut). IsMore x.1) d.talk.outs (place, Piece v) g.0.2 tt), g.1, all_taken ports s d place (Piece v) t, g.6, none, settled);
       worker = t.fits.worker;
       keeps = record {
         own = k.own;
@@ -248,6 +269,7 @@ fed_next ports s z d place v decoder taken t freed all is reads =
         writes = record { pushes = k.writes.pushes; texts = k.writes.texts; rises = k.writes.rises; below = k.writes.below; written = k.writes.written };
         read = subst (λ (l : List ℕ). HasRead l d.talk.handed decoder) bytes (reads (all_bytes d.talk.outs) d.talk.handed k.read);
         refusal = subst (λ (r : Option ℕ). IfSome r (λ code. Parses d.talk.handed (Refused code) true (all_bytes (d.talk.outs ++ (place, Piece v) ∷ [])))) (sym g.0.0) tt;
+        due = all_due ports s d place (Piece v) t;
       };
     })
 
@@ -257,7 +279,7 @@ placed ports s d place at o t = let f = t.fits in let g = f.agrees in let k = f.
   before = t.before;
   token = t.token;
   fits = record {
-    agrees = (g.0, g.1, g.2, g.3, g.4, record { place = g.5.place; last = g.5.last; here = g.5.here }, g.6, g.7);
+    agrees = (g.0, g.1, g.2, g.3, g.4, record { place = g.5.place; last = g.5.last; here = g.5.here }, g.6, g.7, g.8, g.9);
     worker = f.worker;
     keeps = record {
       own = k.own;
@@ -269,6 +291,7 @@ placed ports s d place at o t = let f = t.fits in let g = f.agrees in let k = f.
       writes = record { pushes = k.writes.pushes; texts = k.writes.texts; rises = k.writes.rises; below = k.writes.below; written = k.writes.written };
       read = k.read;
       refusal = k.refusal;
+      due = k.due;
     };
   };
   redeems = t.redeems;

@@ -18,7 +18,8 @@ use Rattle.demi_served.specs.Asking.{reply_for}
 use Rattle.demi_served.specs.Keeps.{IsReplied, WorkerKeeps}
 use Rattle.demi_served.proofs.Outcomes.{outcome_told}
 use Rattle.demi_served.proofs.Stepping.{link_answered, link_handed, worker_handed}
-use Rattle.demi_link.specs.Fitting.{Fits, IsSent, Keeps, Told, answer_as, body_of, reply_as, with_reply}
+use Rattle.demi_link.specs.Heard.{IsLogFault, IsMemoryFault}
+use Rattle.demi_link.specs.Fitting.{Fits, HeardOf, IsSent, Keeps, Told, answer_as, body_of, reply_as, with_reply}
 use Rattle.demi_link.specs.Giving.{Says, segments_of, where_bytes}
 use Rattle.demi_link.specs.Sights.{Side, Sight, worker_of}
 use Rattle.demi_link.specs.Stores.{halves_back}
@@ -37,10 +38,10 @@ module _ (ports : ℕ) (s : Sight) (d : DeskValue) (sequence : ℕ) (half : Opti
 
   -- the sight with so many halves out
   abbrev there : ℕ → Sight
-  there n = record t.before { store = record t.before.store { redeemed = t.before.store.redeemed ++ (t.place, t.token.token.0) ∷ []; known = known }; out = n }
+  there n = record t.before { store = record t.before.store { redeemed = t.before.store.redeemed ++ (t.place, t.token.token.0) ∷ []; known = known }; out = n; due = t.before.due - 1 }
 
   pub there_is : s ≡ there (t.before.out + halves_back out)
-  there_is = t.is ∙ ap (λ (x : Side StoreAsk StoreTold). record t.before { store = x; out = t.before.out + halves_back out }) t.redeems.side
+  there_is = t.is ∙ ap (λ (x : Side StoreAsk StoreTold). record t.before { store = x; out = t.before.out + halves_back out; due = t.before.due - 1 }) t.redeems.side
 
   abbrev pending_ask : StoreAsk
   pending_ask = record { sequence = sequence; op = t.fits.agrees.6.asked }
@@ -84,14 +85,34 @@ module _ (ports : ℕ) (s : Sight) (d : DeskValue) (sequence : ℕ) (half : Opti
     writes = record { pushes = k.writes.pushes; texts = k.writes.texts; rises = k.writes.rises; below = k.writes.below; written = k.writes.written };
     read = k.read;
     refusal = k.refusal;
+    due = k.due;
+  }
+
+  none_due : t.before.due - 1 ≡ 0
+  none_due = let g = t.fits.agrees.7 in omega arith
+
+  -- what it heard
+  heard : (P : StoreAnswer → Type 0) → P out.answer → HeardOf P (there 0) d
+  heard P is = let p = t.fits.agrees.6 in record {
+    asked = p.asked;
+    asks = p.asks;
+    sequence = sequence;
+    drawn = p.drawn;
+    place = t.place;
+    token = t.token.token.0;
+    here = subst (λ (n : ℕ). Among (n, (t.token.token.0, pending_ask)) t.before.store.submitted) own_place p.here;
+    outcome = out;
+    admitted = t.redeems.admitted;
+    below = t.redeems.below;
+    is = is;
   }
 
   -- a link that is over there
-  pub over_log : (z : Sight) → z ≡ there 0 → Fits ports z d (Over cause.LogFault)
-  over_log z e = let g = t.fits.agrees in subst (λ (x : Sight). Fits ports x d (Over cause.LogFault)) (sym e) (record { agrees = (g.2, g.3, refl, g.1, g.0.0); worker = worker_told 0; keeps = keeps_told 0 })
+  pub over_log : (z : Sight) → z ≡ there 0 → IsLogFault out.answer → Fits ports z d (Over cause.LogFault)
+  over_log z e is = let g = t.fits.agrees in subst (λ (x : Sight). Fits ports x d (Over cause.LogFault)) (sym e) (record { agrees = (g.2, g.3, refl, g.1, g.0.0, none_due, heard IsLogFault is); worker = worker_told 0; keeps = keeps_told 0 })
 
-  pub over_memory : (z : Sight) → z ≡ there 0 → Fits ports z d (Over cause.NoMemory)
-  over_memory z e = let g = t.fits.agrees in subst (λ (x : Sight). Fits ports x d (Over cause.NoMemory)) (sym e) (record { agrees = (g.2, g.3, refl, g.1, g.0.0); worker = worker_told 0; keeps = keeps_told 0 })
+  pub over_memory : (z : Sight) → z ≡ there 0 → IsMemoryFault out.answer → Fits ports z d (Over cause.NoMemory)
+  over_memory z e is = let g = t.fits.agrees in subst (λ (x : Sight). Fits ports x d (Over cause.NoMemory)) (sym e) (record { agrees = (g.2, g.3, refl, g.1, g.0.0, none_due, heard IsMemoryFault is); worker = worker_told 0; keeps = keeps_told 0 })
 
   pub over_lost : (z : Sight) → z ≡ there 0 → Fits ports z d (Over cause.Lost)
   over_lost z e = subst (λ (x : Sight). Fits ports x d (Over cause.Lost)) (sym e) (record { agrees = tt; worker = worker_told 0; keeps = keeps_told 0 })
@@ -137,6 +158,7 @@ module _ (ports : ℕ) (s : Sight) (d : DeskValue) (sequence : ℕ) (half : Opti
           bytes,
           sent,
           refl,
+          none_due,
         );
         worker = worker_told n;
         keeps = record {
@@ -149,6 +171,7 @@ module _ (ports : ℕ) (s : Sight) (d : DeskValue) (sequence : ℕ) (half : Opti
           writes = record { pushes = k.writes.pushes; texts = k.writes.texts; rises = k.writes.rises; below = k.writes.below; written = k.writes.written };
           read = k.read;
           refusal = k.refusal;
+          due = k.due;
         };
       })
 
@@ -202,6 +225,7 @@ reply_next ports a b d draft head f is heap spelled answer most =
         (heap, g.6),
         spelled ∙ ap spelling (sym g.10),
         subst IsReply (sym g.10) fits,
+        g.11,
       );
       worker = f.worker;
       keeps = record {
@@ -214,5 +238,6 @@ reply_next ports a b d draft head f is heap spelled answer most =
         writes = k.writes;
         read = k.read;
         refusal = k.refusal;
+        due = k.due;
       };
     })

@@ -50,3 +50,10 @@ brought halves (Ready place outcome) = halves outcome
 brought halves NotYet = 0
 brought halves Spent = 0
 brought halves Unknown = 0
+
+-- the tokens that a try redeems
+abbrev pub settled : {L P O S T B : Type 0} → Redeem L P O S T B → ℕ
+settled (Ready place outcome) = 1
+settled NotYet = 0
+settled Spent = 0
+settled Unknown = 0

@@ -1,5 +1,5 @@
 -- How what a link did agrees with its worker's passes, and with where it stands.
-use Rattle.std.specs.Prelude.{◌≡◌, ℕ, ◌+◌, ◌<◌, ◌≤◌, true, List, [], ◌∷◌, ◌++◌, Option, Some, None, length, map, slice_get, IfSome}
+use Rattle.std.specs.Prelude.{◌≡◌, ℕ, ◌+◌, ◌-◌, ◌<◌, ◌≤◌, true, List, [], ◌∷◌, ◌++◌, Option, Some, None, length, map, slice_get, IfSome}
 use Rattle.std.specs.List.{AllByRecursion}
 use Rattle.demi_device.specs.Serving.{RiseFrom}
 use Rattle.demi_frame.specs.Reading.{HasRead}
@@ -20,7 +20,7 @@ use Rattle.demi_store.specs.declared.op.StoreOp.{StoreOp}
 use Rattle.demi_store.specs.declared.op.StoreOp.TheVariants as op
 use Rattle.demi_store.specs.declared.out.StoreOut.{StoreOut}
 use Rattle.demi_streamq.specs.Receiving.{RxAdmits, IsFrom}
-use Rattle.demi_streamq.specs.RxKept.{all_bytes, pieces_of}
+use Rattle.demi_streamq.specs.RxKept.{IsEnd, all_bytes, pieces_of}
 use Rattle.demi_streamq.specs.Sending.{TxAdmits, array_bytes}
 use Rattle.demi_streamq.specs.declared.rx_op.RxOp.{RxOp}
 use Rattle.demi_streamq.specs.declared.rx_op.RxOp.TheVariants as rx
@@ -33,6 +33,8 @@ use Rattle.demi_streamq.specs.declared.tx_out.TxOut.TheVariants.{Pushed}
 use Rattle.demi_served.specs.Asking.{asks_for, ask_of}
 use Rattle.demi_served.specs.Keeps.{WorkerKeeps, LinkKeeps, IsDrawn, IsReplied, of_link, numbered}
 use Rattle.demi_served.specs.Writing.{texts_of}
+use Rattle.demi_link.specs.Dues.{AllDue, AllMore, IsDue}
+use Rattle.demi_link.specs.Heard.{CameAt, IsLogFault, IsMemoryFault, IsReadFault, IsWriteFault, LastCame, WasTold}
 use Rattle.demi_link.specs.Noting.{after_taken}
 use Rattle.demi_link.specs.Sights.{Redeems, Side, Sight, worker_of}
 use Rattle.demi_link.specs.Stores.{halves_in, halves_back}
@@ -83,8 +85,8 @@ pub record Writes (p : Side TxOp ℕ) (k : TalkValue) : Type 0 where
   pub below : AllByRecursion (λ x. x.0 < p.seen) p.submitted
   pub written : AllByRecursion (IsWritten p) k.written
 
--- What a link keeps of its worker: its draws, its replies, its two ports, and that its decoder has handed out what it was
--- fed.
+-- What a link keeps of its worker: its draws, its replies, its two ports, that its decoder has handed out what it was fed,
+-- and that each of its pops was due.
 pub record Keeps (s : Sight) (d : DeskValue) : Type 0 where
   pub own : of_link d.link s.draws ≡ numbered d.link 0 d.talk.kept.drawn
   pub kept : LinkKeeps s.base (worker_of s) d.link d.talk.kept
@@ -95,6 +97,7 @@ pub record Keeps (s : Sight) (d : DeskValue) : Type 0 where
   pub writes : Writes s.tx d.talk
   pub read : HasRead (all_bytes d.talk.outs) d.talk.handed d.decoder
   pub refusal : IfSome d.talk.refused (λ code. Parses d.talk.handed (ends.Refused code) true (all_bytes d.talk.outs))
+  pub due : AllDue d.talk
 
 -- each pop came to its outcome
 abbrev pub AllTaken : Sight → DeskValue → Type 0
@@ -118,7 +121,7 @@ IsAsked k = (read_by k ≡ k.kept.drawn) × (length k.kept.drawn ≡ length k.ke
 
 -- the input goes on
 abbrev pub GoesOn : DeskValue → Type 0
-GoesOn d = (d.talk.refused ≡ None) × (d.decoder.stop ≡ None)
+GoesOn d = (d.talk.refused ≡ None) × (d.decoder.stop ≡ None) × AllMore d.talk.outs
 
 -- one more request can be numbered
 abbrev pub HasRoom : DeskValue → Type 0
@@ -204,30 +207,36 @@ pub record IsPushing (s : Sight) (d : DeskValue) (token : ℕ) : Type 0 where
   pub last : places s.tx.submitted ≡ d.talk.written ++ place ∷ []
   pub here : Among (place, (token, said)) s.tx.submitted
 
+-- the store's answer to the last request is such
+abbrev pub HeardOf : (StoreAnswer → Type 0) → Sight → DeskValue → Type 0
+HeardOf P s d = WasTold P s.base (worker_of s) d.link (length d.talk.kept.replies) d.talk.request
+
 -- What is so of a link that is over: where it was lost, nothing more than it keeps. Else each pop came to its outcome, no
--- half is left, and each push was written, but the last where a write failed.
+-- half is left, no token is to be redeemed, and each push was written, but the last where a write failed; and it heard
+-- why it is over.
 abbrev pub IsOver : Sight → DeskValue → Cause → Type 0
-IsOver s d cause.Clean = AllTaken s d × AllWritten s d × (s.out ≡ 0) × IsEven d.talk × Parses d.talk.handed ends.Clean true (all_bytes d.talk.outs) × (d.talk.refused ≡ None)
-IsOver s d cause.Bye = AllTaken s d × AllWritten s d × (s.out ≡ 0) × IsEven d.talk × Parses d.talk.handed ends.EndFrame true (all_bytes d.talk.outs) × (d.talk.refused ≡ None)
-IsOver s d (cause.Refused code) = AllTaken s d × AllWritten s d × (s.out ≡ 0) × IsEven d.talk × Parses d.talk.handed (ends.Refused code) true (all_bytes d.talk.outs) × (d.talk.refused ≡ Some code)
-IsOver s d cause.ReadFault = AllTaken s d × AllWritten s d × (s.out ≡ 0) × IsEven d.talk × (d.talk.refused ≡ None)
-IsOver s d cause.WriteFault = AllTaken s d × ((place : ℕ) × (places s.tx.submitted ≡ d.talk.written ++ place ∷ [])) × (s.out ≡ 0) × IsEven d.talk
-IsOver s d cause.LogFault = AllTaken s d × AllWritten s d × (s.out ≡ 0) × IsAsked d.talk × (d.talk.refused ≡ None)
-IsOver s d cause.NoMemory = AllTaken s d × AllWritten s d × (s.out ≡ 0) × IsAsked d.talk × (d.talk.refused ≡ None)
+IsOver s d cause.Clean = AllTaken s d × AllWritten s d × (s.out ≡ 0) × IsEven d.talk × Parses d.talk.handed ends.Clean true (all_bytes d.talk.outs) × (d.talk.refused ≡ None) × (s.due ≡ 0) × LastCame IsEnd d.talk.outs
+IsOver s d cause.Bye = AllTaken s d × AllWritten s d × (s.out ≡ 0) × IsEven d.talk × Parses d.talk.handed ends.EndFrame true (all_bytes d.talk.outs) × (d.talk.refused ≡ None) × (s.due ≡ 0)
+IsOver s d (cause.Refused code) = AllTaken s d × AllWritten s d × (s.out ≡ 0) × IsEven d.talk × Parses d.talk.handed (ends.Refused code) true (all_bytes d.talk.outs) × (d.talk.refused ≡ Some code) × (s.due ≡ 0)
+IsOver s d cause.ReadFault = AllTaken s d × AllWritten s d × (s.out ≡ 0) × IsEven d.talk × (d.talk.refused ≡ None) × (s.due ≡ 0) × LastCame IsReadFault d.talk.outs
+IsOver s d cause.WriteFault = AllTaken s d × ((place : ℕ) × (places s.tx.submitted ≡ d.talk.written ++ place ∷ []) × CameAt IsWriteFault s.tx place) × (s.out ≡ 0) × IsEven d.talk × (s.due ≡ 0)
+IsOver s d cause.LogFault = AllTaken s d × AllWritten s d × (s.out ≡ 0) × IsAsked d.talk × (d.talk.refused ≡ None) × (s.due ≡ 0) × HeardOf IsLogFault s d
+IsOver s d cause.NoMemory = AllTaken s d × AllWritten s d × (s.out ≡ 0) × IsAsked d.talk × (d.talk.refused ≡ None) × (s.due ≡ 0) × HeardOf IsMemoryFault s d
 IsOver s d cause.Lost = Unit {0}
 
 -- how what a link did agrees with where it stands, on so many ports
 abbrev pub Agrees : ℕ → Sight → DeskValue → Phase → Type 0
-Agrees ports s d Reading = GoesOn d × IsEven d.talk × AllTaken s d × AllWritten s d × (s.out ≡ 0)
-Agrees ports s d (Popping token) = GoesOn d × IsEven d.talk × HasRoom d × (d.decoder.hungry ≡ true) × (token.port < ports) × IsPopping s d token.token.0 × AllWritten s d × (s.out ≡ 0)
-Agrees ports s d (Asking kind) = IsKind kind d × HasRoom d × IsAtHand d.talk × AllTaken s d × AllWritten s d × (s.out ≡ 0)
+Agrees ports s d Reading = GoesOn d × IsEven d.talk × AllTaken s d × AllWritten s d × (s.out ≡ 0) × (s.due ≡ 0)
+Agrees ports s d (Popping token) = GoesOn d × IsEven d.talk × HasRoom d × (d.decoder.hungry ≡ true) × (token.port < ports) × IsPopping s d token.token.0 × AllWritten s d × (s.out ≡ 0) × (s.due ≡ 1)
+    × IsDue d.talk.handed d.talk.written d.talk.outs
+Agrees ports s d (Asking kind) = IsKind kind d × HasRoom d × IsAtHand d.talk × AllTaken s d × AllWritten s d × (s.out ≡ 0) × (s.due ≡ 0)
 Agrees ports s d (Holding half asked) = GoesOn d × HasRoom d × IsAtHand d.talk × AllTaken s d × AllWritten s d × (s.out ≡ lent_out half + halves_in asked)
-    × (ask_of d.link d.index d.talk.request ≡ Some (asks_for asked)) × IsProperOp asked × HasHalves s.heap half asked
-Agrees ports s d (Waiting token sequence half) = GoesOn d × IsAsked d.talk × AllTaken s d × AllWritten s d × (s.out ≡ lent_out half) × (token.port < ports) × IsPending s d token.token.0 sequence half
+    × (ask_of d.link d.index d.talk.request ≡ Some (asks_for asked)) × IsProperOp asked × HasHalves s.heap half asked × (s.due ≡ 0)
+Agrees ports s d (Waiting token sequence half) = GoesOn d × IsAsked d.talk × AllTaken s d × AllWritten s d × (s.out ≡ lent_out half) × (token.port < ports) × IsPending s d token.token.0 sequence half × (s.due ≡ 1)
 Agrees ports s d (Replying draft) = GoesOn d × IsAsked d.talk × AllTaken s d × AllWritten s d × (s.out ≡ length (body_of draft.body)) × IsReady s d × AreOf s.heap (body_of draft.body) × (length (body_of draft.body) ≤ 1)
-    × (length (array_bytes (body_of draft.body)) ≤ 65536) × IsSent draft.answer draft.body × (d.talk.reply ≡ reply_as d.talk.kept.worker draft)
-Agrees ports s d (Sending sga behind) = IsBehind behind d × IsAsked d.talk × AllTaken s d × AllWritten s d × (s.out ≡ length sga) × IsReady s d × AreOf s.heap sga × (array_bytes sga ≡ spelling d.talk.reply) × IsReply d.talk.reply
-Agrees ports s d (Pushing token behind) = IsBehind behind d × IsEven d.talk × AllTaken s d × (token.port < ports) × IsPushing s d token.token.0 × (s.out ≡ 0)
+    × (length (array_bytes (body_of draft.body)) ≤ 65536) × IsSent draft.answer draft.body × (d.talk.reply ≡ reply_as d.talk.kept.worker draft) × (s.due ≡ 0)
+Agrees ports s d (Sending sga behind) = IsBehind behind d × IsAsked d.talk × AllTaken s d × AllWritten s d × (s.out ≡ length sga) × IsReady s d × AreOf s.heap sga × (array_bytes sga ≡ spelling d.talk.reply) × IsReply d.talk.reply × (s.due ≡ 0)
+Agrees ports s d (Pushing token behind) = IsBehind behind d × IsEven d.talk × AllTaken s d × (token.port < ports) × IsPushing s d token.token.0 × (s.out ≡ 0) × (s.due ≡ 1)
 Agrees ports s d (Over cause) = IsOver s d cause
 Agrees ports s d Between = ⊥
 
@@ -243,7 +252,7 @@ pub record Took (ports : ℕ) (s : Sight) (d : DeskValue) (place : ℕ) (outcome
   pub token : QToken
   pub fits : Fits ports before d (Popping token)
   pub redeems : Redeems (λ h t p. RxAdmits h t p outcome × IsFrom before.heap outcome) token.token.0 place before.rx s.rx
-  pub is : s ≡ record before { rx = s.rx; out = before.out + pieces_of outcome }
+  pub is : s ≡ record before { rx = s.rx; out = before.out + pieces_of outcome; due = before.due - 1 }
 
 -- The store's operation of a link that waited for it came to this outcome.
 pub record Told (ports : ℕ) (s : Sight) (d : DeskValue) (sequence : ℕ) (half : Option LentValue) (outcome : StoreOut) : Type 0 where
@@ -252,7 +261,7 @@ pub record Told (ports : ℕ) (s : Sight) (d : DeskValue) (sequence : ℕ) (half
   pub place : ℕ
   pub fits : Fits ports before d (Waiting token sequence half)
   pub redeems : Redeems (λ h t p. Admits before.base h t p outcome) token.token.0 place before.store s.store
-  pub is : s ≡ record before { store = s.store; out = before.out + halves_back outcome }
+  pub is : s ≡ record before { store = s.store; out = before.out + halves_back outcome; due = before.due - 1 }
 
 -- The push of a link that waited for it came to this outcome, at this place.
 pub record Wrote (ports : ℕ) (s : Sight) (d : DeskValue) (place : ℕ) (behind : Option Cause) (outcome : TxOut) : Type 0 where
@@ -260,7 +269,7 @@ pub record Wrote (ports : ℕ) (s : Sight) (d : DeskValue) (place : ℕ) (behind
   pub token : QToken
   pub fits : Fits ports before d (Pushing token behind)
   pub redeems : Redeems (λ h t p. TxAdmits h t p outcome) token.token.0 place before.tx s.tx
-  pub is : s ≡ record before { tx = s.tx }
+  pub is : s ≡ record before { tx = s.tx; due = before.due - 1 }
 
 -- The link has noted the outcome of its pop, and its decoder was not told yet.
 pub record Noted (ports : ℕ) (s : Sight) (d : DeskValue) (outcome : RxOut) : Type 0 where
@@ -272,11 +281,12 @@ pub record Noted (ports : ℕ) (s : Sight) (d : DeskValue) (outcome : RxOut) : T
 abbrev pub IsSmall : HeapId → HalfValue → Type 0
 IsSmall heap half = (half.heap ≡ heap) × (half.class ≡ Small)
 
--- The link asked its decoder, which has no more.
+-- The link asked its decoder, which has no more: a pop is due.
 pub record IsHungry (ports : ℕ) (s : Sight) (d : DeskValue) : Type 0 where
   pub reading : Fits ports s d Reading
   pub room : HasRoom d
   pub hungry : d.decoder.hungry ≡ true
+  pub due : IsDue d.talk.handed d.talk.written d.talk.outs
 
 -- The link stands there, and has claimed so many more halves.
 pub record HasClaimed (ports : ℕ) (s : Sight) (d : DeskValue) (phase : Phase) (count : ℕ) : Type 0 where

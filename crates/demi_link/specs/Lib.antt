@@ -1,10 +1,12 @@
 pub mod Beside
 pub mod Causes
 pub mod Desks
+pub mod Dues
 pub mod Ends
 pub mod Events
 pub mod Fitting
 pub mod Giving
+pub mod Heard
 pub mod Linked
 pub mod Noting
 pub mod Sights

@@ -13,9 +13,10 @@ pub record LinkValue : Type 0 where
   pub phase : Phase
   pub last : Next
 
--- nothing was drawn, popped, pushed or claimed for the link
+-- nothing was drawn, popped, pushed or claimed for the link, and no token of it is to be redeemed
 pub record IsFresh (s : Sight) (link : ℕ) : Type 0 where
   pub draws : AllByRecursion (λ d. d.link ≢ link) s.draws
   pub pops : s.rx.submitted ≡ []
   pub pushes : s.tx.submitted ≡ []
   pub out : s.out ≡ 0
+  pub due : s.due ≡ 0

@@ -26,8 +26,9 @@ abbrev pub side_of : {D T B : Type 0} → PassValue D T B → Side D T
 side_of p = record { seen = p.seen; submitted = p.submitted; redeemed = p.redeemed; known = known_by p }
 
 -- What a worker has for one of its links: the heap, what the store stands on, the worker's number, its pass of the store's
--- port, for what it drew its sequence numbers, its passes of the link's two ports, and how many application halves its
--- calls for the link have taken and not given back.
+-- port, for what it drew its sequence numbers, its passes of the link's two ports, how many application halves its calls
+-- for the link have taken and not given back, and how many tokens of its submissions for the link, at the store's port and
+-- at the link's two, have not been redeemed yet.
 pub record Sight : Type 0 where
   pub heap : HeapId
   pub base : StoreBasis
@@ -37,6 +38,7 @@ pub record Sight : Type 0 where
   pub rx : Side RxOp RxTold
   pub tx : Side TxOp ℕ
   pub out : ℕ
+  pub due : ℕ
 
 abbrev pub worker_of : Sight → Worker
 worker_of s = record { submitted = s.store.submitted; known = s.store.known; draws = s.draws }
@@ -57,8 +59,8 @@ pub record Redeems {D T : Type 0} (admits : List D → List (ℕ × T) → ℕ �
   pub own : (k : ℕ) (d : D) → Among (k, (token, d)) p.submitted → k ≡ place
   pub said : (d : D) → Among (place, (token, d)) p.submitted → slice_get q.known.heard place ≡ Some d
 
--- What the others of a worker leave of a link's: they draw no number for it, do nothing at its two ports, and take none of
--- its halves; and where a worker keeps its own, it does so after them.
+-- What the others of a worker leave of a link's: they draw no number for it, do nothing at its two ports, take none of its
+-- halves, and submit and redeem nothing for it; and where a worker keeps its own, it does so after them.
 pub record LeavesBe (link : ℕ) (a b : Sight) : Type 0 where
   pub heap : b.heap ≡ a.heap
   pub base : b.base ≡ a.base
@@ -68,3 +70,4 @@ pub record LeavesBe (link : ℕ) (a b : Sight) : Type 0 where
   pub rx : b.rx ≡ a.rx
   pub tx : b.tx ≡ a.tx
   pub out : b.out ≡ a.out
+  pub due : b.due ≡ a.due

@@ -11,7 +11,7 @@ ghost use Rattle.demi_streamq.specs.RxKept.{pieces_of};
 ghost use Rattle.demi_streamq.specs.Sending.{TxAdmits};
 ghost use Rattle.demi_streamq.specs.declared.rx_op.RxOp.TheVariants.{Pop as pop_op};
 ghost use Rattle.demi_streamq.specs.declared.tx_op.TxOp.TheVariants.{Push as push_op};
-ghost use Rattle.demi_link.specs.Events.{Adds, Event, Gave, NoSlotFound, NoTokenFound, NumbersUsedUp, RxCame, TriedBy, TxCame, brought, store_came, tried};
+ghost use Rattle.demi_link.specs.Events.{Adds, Event, Gave, NoSlotFound, NoTokenFound, NumbersUsedUp, RxCame, TriedBy, TxCame, brought, settled, store_came, tried};
 ghost use Rattle.demi_link.specs.Sights.{LeavesBe, Sight, Submits, worker_of};
 ghost use Rattle.demi_link.specs.Stores.{halves_in, halves_back};
 
@@ -107,16 +107,17 @@ pub trait Calls: Scanner {
     fn pop(&mut self, link: u16) -> Result<QToken, NoToken>
         ensures port { IfOk result (λ r. r.port < Self.ports self.old) }
         ensures ok { IfOk result (λ r. (place : ℕ) × Submits place (sight self.old link).rx (sight self.new link).rx r.token.0 (pop_op 4096)) }
-        ensures only { IfOk result (λ r. (sight self.new link ≡ record (sight self.old link) { rx = (sight self.new link).rx }) × Adds (events self.old) (events self.new) (Gave r)) }
+        ensures only { IfOk result (λ r. (sight self.new link ≡ record (sight self.old link) { rx = (sight self.new link).rx; due = (sight self.old link).due + 1 }) × Adds (events self.old) (events self.new) (Gave r)) }
         ensures err { IfErr result (λ _. (sight self.new link ≡ sight self.old link) × Adds (events self.old) (events self.new) NoTokenFound) }
         ensures seen { Self.seen self.new ≡ Self.seen self.old }
         ensures begun { Self.begun self.new ≡ Self.begun self.old }
         ensures goes { Self.goes link self.old self.new };
 
-    /// What the token's pop came to.
+    /// What the token's pop came to. The link has a token that is to be redeemed.
     fn try_rx(&mut self, link: u16, token: QToken) -> Redeem<RxLaw>
+        requires due { 1 ≤ (sight self.old link).due }
         ensures tried { TriedBy (λ o h t p. RxAdmits h t p o × IsFrom (sight self.old link).heap o) token.token.0 (sight self.old link).rx (sight self.new link).rx result }
-        ensures only { sight self.new link ≡ record (sight self.old link) { rx = (sight self.new link).rx; out = (sight self.old link).out + brought pieces_of result } }
+        ensures only { sight self.new link ≡ record (sight self.old link) { rx = (sight self.new link).rx; out = (sight self.old link).out + brought pieces_of result; due = (sight self.old link).due - settled result } }
         ensures events { Adds (events self.old) (events self.new) (tried RxCame token result) }
         ensures seen { Self.seen self.new ≡ Self.seen self.old }
         ensures begun { Self.begun self.new ≡ Self.begun self.old }
@@ -142,16 +143,17 @@ pub trait Calls: Scanner {
         ensures port { IfOk result (λ r. r.0.port < Self.ports self.old) }
         ensures number { IfOk result (λ r. (r.1 ≡ length (sight self.old link).draws + 1) × (r.1 ≤ 18446744073709551615)) }
         ensures ok { IfOk result (λ r. (place : ℕ) × Submits place (sight self.old link).store (sight self.new link).store r.0.token.0 (record { sequence = r.1; op = op })) }
-        ensures only { IfOk result (λ r. (sight self.new link ≡ record (sight self.old link) { store = (sight self.new link).store; draws = (sight self.old link).draws ++ record { link = link; index = length talk.now.value.kept.drawn; request = talk.now.value.request } ∷ []; out = (sight self.old link).out - halves_in op }) × Adds (events self.old) (events self.new) (Gave r.0)) }
+        ensures only { IfOk result (λ r. (sight self.new link ≡ record (sight self.old link) { store = (sight self.new link).store; draws = (sight self.old link).draws ++ record { link = link; index = length talk.now.value.kept.drawn; request = talk.now.value.request } ∷ []; out = (sight self.old link).out - halves_in op; due = (sight self.old link).due + 1 }) × Adds (events self.old) (events self.new) (Gave r.0)) }
         ensures err { IfErr result (λ o. (o ≡ op) × (sight self.new link ≡ sight self.old link) × Adds (events self.old) (events self.new) NoTokenFound) }
         ensures seen { Self.seen self.new ≡ Self.seen self.old }
         ensures begun { Self.begun self.new ≡ Self.begun self.old }
         ensures goes { Self.goes link self.old self.new };
 
-    /// What the token's operation of the store came to.
+    /// What the token's operation of the store came to, likewise.
     fn try_store(&mut self, link: u16, token: QToken) -> Redeem<StoreLaw>
+        requires due { 1 ≤ (sight self.old link).due }
         ensures tried { TriedBy (λ o h t p. Admits (sight self.old link).base h t p o) token.token.0 (sight self.old link).store (sight self.new link).store result }
-        ensures only { sight self.new link ≡ record (sight self.old link) { store = (sight self.new link).store; out = (sight self.old link).out + brought halves_back result } }
+        ensures only { sight self.new link ≡ record (sight self.old link) { store = (sight self.new link).store; out = (sight self.old link).out + brought halves_back result; due = (sight self.old link).due - settled result } }
         ensures events { Adds (events self.old) (events self.new) (tried store_came token result) }
         ensures seen { Self.seen self.new ≡ Self.seen self.old }
         ensures begun { Self.begun self.new ≡ Self.begun self.old }
@@ -163,16 +165,17 @@ pub trait Calls: Scanner {
         ensures port { IfOk result (λ r. r.0.port < Self.ports self.old) }
         ensures half { IfOk result (λ r. r.1 ≡ record { segments = sga; back = 0 }) }
         ensures ok { IfOk result (λ r. (place : ℕ) × Submits place (sight self.old link).tx (sight self.new link).tx r.0.token.0 (push_op sga)) }
-        ensures only { IfOk result (λ r. (sight self.new link ≡ record (sight self.old link) { tx = (sight self.new link).tx }) × Adds (events self.old) (events self.new) (Gave r.0)) }
+        ensures only { IfOk result (λ r. (sight self.new link ≡ record (sight self.old link) { tx = (sight self.new link).tx; due = (sight self.old link).due + 1 }) × Adds (events self.old) (events self.new) (Gave r.0)) }
         ensures err { IfErr result (λ a. (a ≡ sga) × (sight self.new link ≡ sight self.old link) × Adds (events self.old) (events self.new) NoTokenFound) }
         ensures seen { Self.seen self.new ≡ Self.seen self.old }
         ensures begun { Self.begun self.new ≡ Self.begun self.old }
         ensures goes { Self.goes link self.old self.new };
 
-    /// What the token's push came to.
+    /// What the token's push came to, likewise.
     fn try_tx(&mut self, link: u16, token: QToken) -> Redeem<TxLaw>
+        requires due { 1 ≤ (sight self.old link).due }
         ensures tried { TriedBy (λ o h t p. TxAdmits h t p o) token.token.0 (sight self.old link).tx (sight self.new link).tx result }
-        ensures only { sight self.new link ≡ record (sight self.old link) { tx = (sight self.new link).tx } }
+        ensures only { sight self.new link ≡ record (sight self.old link) { tx = (sight self.new link).tx; due = (sight self.old link).due - settled result } }
         ensures events { Adds (events self.old) (events self.new) (tried TxCame token result) }
         ensures seen { Self.seen self.new ≡ Self.seen self.old }
         ensures begun { Self.begun self.new ≡ Self.begun self.old }

@@ -1,33 +1,38 @@
 // Laws of what a link keeps: functions that do nothing.
-ghost use Rattle.std.specs.Prelude.{◌≡◌, ◌≢◌, ◌≤◌, ℕ, List, None, Option, Some, length, slice_get, true};
+ghost use Rattle.std.specs.Prelude.{◌≡◌, ◌≢◌, ◌≤◌, ◌++◌, ◌∷◌, [], ℕ, List, None, Option, Some, length, slice_get, true};
 ghost use Rattle.std.specs.List.{AllByRecursion};
 ghost use Rattle.demi_heap.specs.Seen.{HalfValue};
 ghost use Rattle.demi_port_core.specs.History.{Among};
 ghost use Rattle.demi_port_core.specs.Trails.{Behind, StartsWith};
+ghost use Rattle.demi_port_core.specs.declared.place.QToken.{QToken};
 ghost use Rattle.demi_port_core.specs.declared.trail.Trail.{Trail};
-ghost use Rattle.demi_spec.specs.Input.{asked};
+ghost use Rattle.demi_spec.specs.Input.{Clean as no_more, EndFrame as end_frame, Parses, Refused as refusal, asked};
 ghost use Rattle.demi_spec.specs.Reply.{IsReply};
-ghost use Rattle.demi_streamq.specs.RxKept.{all_bytes};
+ghost use Rattle.demi_streamq.specs.RxKept.{IsEnd, all_bytes};
 ghost use Rattle.demi_streamq.specs.declared.rx_op.RxOp.{RxOp};
 ghost use Rattle.demi_streamq.specs.declared.rx_op.RxOp.TheVariants.{Pop};
+ghost use Rattle.demi_streamq.specs.declared.rx_out.RxOut.{RxOut};
 ghost use Rattle.demi_streamq.specs.declared.rx_told.RxTold.{RxTold};
 ghost use Rattle.demi_streamq.specs.declared.tx_op.TxOp.{TxOp};
 ghost use Rattle.demi_streamq.specs.declared.tx_op.TxOp.TheVariants.{Push};
 ghost use Rattle.demi_served.specs.Keeps.{LinkKeeps, WorkerKeeps, numbered, of_link};
 ghost use Rattle.demi_served.specs.Reading.{Popped};
 ghost use Rattle.demi_served.specs.Writing.{PushesEach, WroteAll, WroteBefore};
+ghost use Rattle.demi_link.specs.Dues.{IsDue};
 ghost use Rattle.demi_link.specs.Ends.{IsDone, IsKnown, new_desk};
-ghost use Rattle.demi_link.specs.Fitting.{Fits, ops_of, places};
+ghost use Rattle.demi_link.specs.Fitting.{Fits, HeardOf, IsAsked, ops_of, places};
+ghost use Rattle.demi_link.specs.Heard.{CameAt, IsLogFault, IsMemoryFault, IsReadFault, IsWriteFault, LastCame};
 ghost use Rattle.demi_link.specs.Linked.{IsFresh};
 ghost use Rattle.demi_link.specs.Sights.{Sight, worker_of};
 ghost use Rattle.demi_link.specs.Talks.{DeskValue};
 ghost use Rattle.demi_link.specs.declared.phase.Cause.{Cause};
+ghost use Rattle.demi_link.specs.declared.phase.Cause.TheVariants.{Bye as bye, Clean as clean, LogFault as log_fault, NoMemory as no_memory, ReadFault as read_fault, Refused as refused, WriteFault as write_fault};
 ghost use Rattle.demi_link.specs.declared.phase.Phase.{Phase};
-ghost use Rattle.demi_link.specs.declared.phase.Phase.TheVariants.{Over, Reading};
+ghost use Rattle.demi_link.specs.declared.phase.Phase.TheVariants.{Over, Popping, Reading};
 
 use demi_served::what_a_decoder_handed_out_is_asked;
 
-/// A new link fits where nothing was drawn, popped, pushed or claimed for it.
+/// A new link fits where nothing was drawn, popped, pushed or claimed for it, and no token of it is to be redeemed.
 pub fn a_new_link_fits()
     ensures { (ports link worker : ℕ) (s : Sight) → WorkerKeeps (worker_of s) → s.number ≡ worker → worker ≤ 255 → IsFresh s link → Fits ports s (new_desk link worker) Reading }
 {}
@@ -49,6 +54,33 @@ pub fn an_ended_link_asked_what_it_was_fed()
 {
     what_a_decoder_handed_out_is_asked();
 }
+
+/// It owes nothing: each application half that it took was given back, and each token of its submissions was redeemed.
+pub fn an_ended_link_owes_nothing()
+    ensures halves { (ports : ℕ) (s : Sight) (d : DeskValue) (c : Cause) → Fits ports s d (Over c) → IsKnown c → s.out ≡ 0 }
+    ensures tokens { (ports : ℕ) (s : Sight) (d : DeskValue) (c : Cause) → Fits ports s d (Over c) → IsKnown c → s.due ≡ 0 }
+{}
+
+/// Why it is over is what it heard: the end of the input as its last pop; an end frame or a refusal in what it was fed; a
+/// failed read as its last pop; a failed write at its last push; a failed log or want of memory as the answer to its last
+/// request.
+pub fn an_ended_link_heard_why()
+    ensures clean { (ports : ℕ) (s : Sight) (d : DeskValue) → Fits ports s d (Over clean) → LastCame IsEnd d.talk.outs × Parses d.talk.handed no_more true (all_bytes d.talk.outs) }
+    ensures bye { (ports : ℕ) (s : Sight) (d : DeskValue) → Fits ports s d (Over bye) → Parses d.talk.handed end_frame true (all_bytes d.talk.outs) }
+    ensures refused { (ports code : ℕ) (s : Sight) (d : DeskValue) → Fits ports s d (Over (refused code)) → (d.talk.refused ≡ Some code) × Parses d.talk.handed (refusal code) true (all_bytes d.talk.outs) }
+    ensures read { (ports : ℕ) (s : Sight) (d : DeskValue) → Fits ports s d (Over read_fault) → LastCame IsReadFault d.talk.outs }
+    ensures write { (ports : ℕ) (s : Sight) (d : DeskValue) → Fits ports s d (Over write_fault) → (place : ℕ) × (places s.tx.submitted ≡ d.talk.written ++ place ∷ []) × CameAt IsWriteFault s.tx place }
+    ensures log { (ports : ℕ) (s : Sight) (d : DeskValue) → Fits ports s d (Over log_fault) → IsAsked d.talk × HeardOf IsLogFault s d }
+    ensures memory { (ports : ℕ) (s : Sight) (d : DeskValue) → Fits ports s d (Over no_memory) → IsAsked d.talk × HeardOf IsMemoryFault s d }
+{}
+
+/// It read what was due: the input went on behind each pop before the last, at each pop the bytes of those before it were whole
+/// requests and no whole one more, and as many replies are known written. Of a pop that is still to come they were so when it
+/// was made.
+pub fn an_ended_link_read_what_was_due()
+    ensures each { (ports : ℕ) (s : Sight) (d : DeskValue) (c : Cause) → Fits ports s d (Over c) → (before after : List (ℕ × RxOut)) (x : ℕ × RxOut) → d.talk.outs ≡ before ++ x ∷ after → IsDue d.talk.handed d.talk.written before }
+    ensures next { (ports : ℕ) (s : Sight) (d : DeskValue) (token : QToken) → Fits ports s d (Popping token) → IsDue d.talk.handed d.talk.written d.talk.outs }
+{}
 
 /// What it was fed is what its receiving port gave, where each pop of that port was its own.
 pub fn an_ended_link_popped_all()

@@ -3,6 +3,7 @@ use Rattle.demi_streamq.specs.declared.tx_out.TxOut.{TxOut}
 use Rattle.demi_streamq.specs.declared.tx_out.TxOut.TheVariants.{Fault, Broken, Shut, Closed, Stopped, Halted}
 use Rattle.demi_link.specs.Desks.{desk_of}
 use Rattle.demi_link.specs.Events.{Adds, TxCame}
+use Rattle.demi_link.specs.Heard.{IsWriteFault}
 use Rattle.demi_link.specs.Fitting.{Fits, Wrote}
 use Rattle.demi_link.specs.declared.phase.Cause.TheVariants as cause
 use Rattle.demi_link.specs.declared.phase.Phase.{Phase}
@@ -20,14 +21,14 @@ returns-in-Pushed-clause-cause g c = λ before adds. c.wrote.ensures.cause befor
 
 pub returns-in-Fault-clause-fits : goal.returns-in-Fault-clause-fits
 returns-in-Fault-clause-fits g c = let d = desk_of c.args.self.now in let ports = g.C.Scanner.ports c.args.cx.now in let s = g.C.Calls.sight c.args.cx.now d.link in
-    subst (λ (p : Phase). Fits ports s d p) (sym c.ends.ensures.phase) (over_write ports s d c.args.place.0 c.args.behind c.args.outcome c.requires)
+    subst (λ (p : Phase). Fits ports s d p) (sym c.ends.ensures.phase) (over_write ports s d c.args.place.0 c.args.behind c.args.outcome c.requires (subst IsWriteFault (sym c.in-Fault.is) tt))
 
 pub returns-in-Fault-clause-cause : goal.returns-in-Fault-clause-cause
 returns-in-Fault-clause-cause g c = λ before adds. caused_by before _ c.args.self.now.index (Over cause.WriteFault) _ (TxCame (Fault c.in-Fault.field-0)) c.ends.ensures.phase (subst (λ (x : TxOut). Adds before (g.C.Calls.events c.args.cx.now) (TxCame x)) c.in-Fault.is adds) tt
 
 pub returns-in-Broken-clause-fits : goal.returns-in-Broken-clause-fits
 returns-in-Broken-clause-fits g c = let d = desk_of c.args.self.now in let ports = g.C.Scanner.ports c.args.cx.now in let s = g.C.Calls.sight c.args.cx.now d.link in
-    subst (λ (p : Phase). Fits ports s d p) (sym c.ends-in-Broken.ensures.phase) (over_write ports s d c.args.place.0 c.args.behind c.args.outcome c.requires)
+    subst (λ (p : Phase). Fits ports s d p) (sym c.ends-in-Broken.ensures.phase) (over_write ports s d c.args.place.0 c.args.behind c.args.outcome c.requires (subst IsWriteFault (sym c.in-Broken.is) tt))
 
 pub returns-in-Broken-clause-cause : goal.returns-in-Broken-clause-cause
 returns-in-Broken-clause-cause g c = λ before adds. caused_by before _ c.args.self.now.index (Over cause.WriteFault) _ (TxCame (Broken c.in-Broken.field-0)) c.ends-in-Broken.ensures.phase (subst (λ (x : TxOut). Adds before (g.C.Calls.events c.args.cx.now) (TxCame x)) c.in-Broken.is adds) tt

@@ -1,3 +1,5 @@
+use Rattle.std.proofs.Common.{◌≡◌, List, ℕ, false, subst, sym}
+use Rattle.demi_spec.specs.Input.{Ends, Open, front}
 use Rattle.demi_streamq.specs.RxKept.{all_bytes}
 use Rattle.demi_link.specs.Desks.{desk_of}
 use Rattle.demi_link.proofs.Found.{found_end, found_get, found_put, found_refused, hungry_next}
@@ -11,7 +13,7 @@ pop-requires g c =
     let e = c.in-More.ensures in
     let h = e.consumed f.agrees.0.1 in
     hungry_next (g.C.Scanner.ports c.args.cx.now) (g.C.Calls.sight c.args.cx.now d.link) d c.next.new.self f c.if-self-ge4294967295.false
-    (next_more d.decoder c.next.new.self (all_bytes d.talk.outs) d.talk.handed f.agrees.0.1 e.read f.keeps.read) h.3 h.2
+    (next_more d.decoder c.next.new.self (all_bytes d.talk.outs) d.talk.handed f.agrees.0.1 e.read f.keeps.read) h.3 h.2 (subst (λ (l : List ℕ). front false l ≡ Ends Open) (sym h.1) h.0)
 
 pub prepare-requires : goal.prepare-requires
 prepare-requires g c =

@@ -8,6 +8,7 @@ use Rattle.demi_served.specs.Asking.{answer_with}
 use Rattle.demi_link.specs.Desks.{desk_of}
 use Rattle.demi_link.specs.Events.{Adds, Event, StoreCame}
 use Rattle.demi_link.specs.Causes.{Caused}
+use Rattle.demi_link.specs.Heard.{IsLogFault, IsMemoryFault}
 use Rattle.demi_link.specs.Fitting.{Fits, IsSent, answer_as, body_of, with_reply}
 use Rattle.demi_link.specs.Giving.{IsPaired, segments_of, where_bytes}
 use Rattle.demi_link.specs.Sights.{Sight}
@@ -162,7 +163,7 @@ returns-in-Fault-clause-fits g c = let d = desk_of c.args.self.now in let ports 
     let z = g.C.Calls.sight c.let_go-in-Fault.new.cx d.link in
     subst (λ (p : ℕ). Fits p z d c.ends.result.phase) (sym (g.met.C.Scanner.goes_ports d.link _ _ (g.met.C.Scanner.goes_on d.link _ _ _ b.goes c.let_go-in-Fault.ensures.goes)))
     (subst (λ (p : Phase). Fits ports z d p) (sym c.ends.ensures.phase)
-    (over_log ports s d q half out t z (let_go_is ports s d q half out t y z b.sight (c.let_go-in-Fault.ensures.sight ∙ ap (λ (x : Option (List HalfValue)). record y { out = y.out - length (body_of x) }) b.body))))
+    (over_log ports s d q half out t z (let_go_is ports s d q half out t y z b.sight (c.let_go-in-Fault.ensures.sight ∙ ap (λ (x : Option (List HalfValue)). record y { out = y.out - length (body_of x) }) b.body)) (subst IsLogFault (sym c.in-Fault.is) tt)))
 
 pub returns-in-Fault-clause-cause : goal.returns-in-Fault-clause-cause
 returns-in-Fault-clause-cause g c = let b = c.taken_back-body.ensures in λ before adds. caused_by before _ c.args.self.now.index (Over cause.LogFault) _ (StoreCame (said.Fault)) c.ends.ensures.phase (c.let_go-in-Fault.ensures.events ∙ b.events ∙ subst (λ (x : StoreAnswer). Adds before (g.C.Calls.events c.args.cx.now) (StoreCame x)) c.in-Fault.is adds) tt
@@ -173,7 +174,7 @@ returns-in-Broken-clause-fits g c = let d = desk_of c.args.self.now in let ports
     let z = g.C.Calls.sight c.let_go-in-Broken.new.cx d.link in
     subst (λ (p : ℕ). Fits p z d c.ends-in-Broken.result.phase) (sym (g.met.C.Scanner.goes_ports d.link _ _ (g.met.C.Scanner.goes_on d.link _ _ _ b.goes c.let_go-in-Broken.ensures.goes)))
     (subst (λ (p : Phase). Fits ports z d p) (sym c.ends-in-Broken.ensures.phase)
-    (over_log ports s d q half out t z (let_go_is ports s d q half out t y z b.sight (c.let_go-in-Broken.ensures.sight ∙ ap (λ (x : Option (List HalfValue)). record y { out = y.out - length (body_of x) }) b.body))))
+    (over_log ports s d q half out t z (let_go_is ports s d q half out t y z b.sight (c.let_go-in-Broken.ensures.sight ∙ ap (λ (x : Option (List HalfValue)). record y { out = y.out - length (body_of x) }) b.body)) (subst IsLogFault (sym c.in-Broken.is) tt)))
 
 pub returns-in-Broken-clause-cause : goal.returns-in-Broken-clause-cause
 returns-in-Broken-clause-cause g c = let b = c.taken_back-body.ensures in λ before adds. caused_by before _ c.args.self.now.index (Over cause.LogFault) _ (StoreCame (said.Broken c.in-Broken.field-0)) c.ends-in-Broken.ensures.phase (c.let_go-in-Broken.ensures.events ∙ b.events ∙ subst (λ (x : StoreAnswer). Adds before (g.C.Calls.events c.args.cx.now) (StoreCame x)) c.in-Broken.is adds) tt
@@ -184,7 +185,7 @@ returns-in-NoMemory-clause-fits g c = let d = desk_of c.args.self.now in let por
     let z = g.C.Calls.sight c.let_go-in-NoMemory.new.cx d.link in
     subst (λ (p : ℕ). Fits p z d c.ends-in-NoMemory.result.phase) (sym (g.met.C.Scanner.goes_ports d.link _ _ (g.met.C.Scanner.goes_on d.link _ _ _ b.goes c.let_go-in-NoMemory.ensures.goes)))
     (subst (λ (p : Phase). Fits ports z d p) (sym c.ends-in-NoMemory.ensures.phase)
-    (over_memory ports s d q half out t z (let_go_is ports s d q half out t y z b.sight (c.let_go-in-NoMemory.ensures.sight ∙ ap (λ (x : Option (List HalfValue)). record y { out = y.out - length (body_of x) }) b.body))))
+    (over_memory ports s d q half out t z (let_go_is ports s d q half out t y z b.sight (c.let_go-in-NoMemory.ensures.sight ∙ ap (λ (x : Option (List HalfValue)). record y { out = y.out - length (body_of x) }) b.body)) (subst IsMemoryFault (sym c.in-NoMemory.is) tt)))
 
 pub returns-in-NoMemory-clause-cause : goal.returns-in-NoMemory-clause-cause
 returns-in-NoMemory-clause-cause g c = let b = c.taken_back-body.ensures in λ before adds. caused_by before _ c.args.self.now.index (Over cause.NoMemory) _ (StoreCame (said.NoMemory)) c.ends-in-NoMemory.ensures.phase (c.let_go-in-NoMemory.ensures.events ∙ b.events ∙ subst (λ (x : StoreAnswer). Adds before (g.C.Calls.events c.args.cx.now) (StoreCame x)) c.in-NoMemory.is adds) tt

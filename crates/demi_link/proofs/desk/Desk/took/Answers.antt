@@ -31,7 +31,7 @@ pop-requires g c = let d = desk_of c.args.self.now in let ports = g.C.Scanner.po
     let p = c.args.place.0 in
     let n = noted ports s d p NoSlot c.one_placed-placed.result.value c.one_taken.result.value (subst (Took ports s d p) c.in-NoSlot.is c.requires) c.one_placed-placed.ensures
     (c.one_taken.ensures ∙ ap (λ (o : RxOut). after_taken c.one_placed-placed.result.value c.one_placed-placed.result.value.place o) c.in-NoSlot.is) in
-    subst (λ (t : TalkValue). IsHungry ports s (record d { talk = t })) (sym n.now) (taken_hungry ports s (record d { talk = n.was }) n.was.place NoSlot n.took refl refl)
+    subst (λ (t : TalkValue). IsHungry ports s (record d { talk = t })) (sym n.now) (taken_hungry ports s (record d { talk = n.was }) n.was.place NoSlot n.took refl refl tt)
 
 pub returns-in-NoSlot-clause-cause : goal.returns-in-NoSlot-clause-cause
 returns-in-NoSlot-clause-cause g c = λ before adds. caused_since before _ _ _ _ (adds_on before _ _ adds) c.pop.ensures.cause
@@ -42,7 +42,7 @@ returns-in-Fault-clause-fits g c = let d = desk_of c.args.self.now in let ports 
     let n = noted ports s d c.args.place.0 o c.one_placed-placed.result.value c.one_taken.result.value (subst (Took ports s d c.args.place.0) c.in-Fault.is c.requires) c.one_placed-placed.ensures
     (c.one_taken.ensures ∙ ap (λ (x : RxOut). after_taken c.one_placed-placed.result.value c.one_placed-placed.result.value.place x) c.in-Fault.is) in
     subst (λ (p : Phase). Fits ports s (record d { talk = c.one_taken.result.value }) p) (sym c.ends.ensures.phase)
-    (subst (λ (t : TalkValue). Fits ports s (record d { talk = t }) (Over cause.ReadFault)) (sym n.now) (taken_fault ports s (record d { talk = n.was }) n.was.place o n.took refl refl))
+    (subst (λ (t : TalkValue). Fits ports s (record d { talk = t }) (Over cause.ReadFault)) (sym n.now) (taken_fault ports s (record d { talk = n.was }) n.was.place o n.took refl refl tt))
 
 pub returns-in-Fault-clause-cause : goal.returns-in-Fault-clause-cause
 returns-in-Fault-clause-cause g c = λ before adds. caused_by before _ c.args.self.now.index (Over cause.ReadFault) _ (RxCame (Fault c.in-Fault.field-0)) c.ends.ensures.phase (subst (λ (x : RxOut). Adds before (g.C.Calls.events c.args.cx.now) (RxCame x)) c.in-Fault.is adds) tt
@@ -53,7 +53,7 @@ returns-in-Broken-clause-fits g c = let d = desk_of c.args.self.now in let ports
     let n = noted ports s d c.args.place.0 o c.one_placed-placed.result.value c.one_taken.result.value (subst (Took ports s d c.args.place.0) c.in-Broken.is c.requires) c.one_placed-placed.ensures
     (c.one_taken.ensures ∙ ap (λ (x : RxOut). after_taken c.one_placed-placed.result.value c.one_placed-placed.result.value.place x) c.in-Broken.is) in
     subst (λ (p : Phase). Fits ports s (record d { talk = c.one_taken.result.value }) p) (sym c.ends-in-Broken.ensures.phase)
-    (subst (λ (t : TalkValue). Fits ports s (record d { talk = t }) (Over cause.ReadFault)) (sym n.now) (taken_fault ports s (record d { talk = n.was }) n.was.place o n.took refl refl))
+    (subst (λ (t : TalkValue). Fits ports s (record d { talk = t }) (Over cause.ReadFault)) (sym n.now) (taken_fault ports s (record d { talk = n.was }) n.was.place o n.took refl refl tt))
 
 pub returns-in-Broken-clause-cause : goal.returns-in-Broken-clause-cause
 returns-in-Broken-clause-cause g c = λ before adds. caused_by before _ c.args.self.now.index (Over cause.ReadFault) _ (RxCame (Broken c.in-Broken.field-0)) c.ends-in-Broken.ensures.phase (subst (λ (x : RxOut). Adds before (g.C.Calls.events c.args.cx.now) (RxCame x)) c.in-Broken.is adds) tt
