@@ -2,7 +2,7 @@
 use Rattle.std.proofs.Common.{◌≡◌, ℕ, ◌<◌, List, [], All, length, get_or, map, ap, sym, subst, ◌∙◌}
 use Rattle.std.specs.Prelude.{Some}
 use Rattle.demi_heap.specs.Seen.{HeapId}
-use Rattle.demi_port.specs.Seen.{PassValue, PortId}
+use Rattle.demi_port.specs.Seen.{PassValue, PortId, StandsOn}
 use Rattle.demi_port.specs.declared.redeem.Redeem.{Redeem}
 use Rattle.demi_port.specs.declared.redeem.Redeem.TheVariants.{Ready, NotYet, Spent, Unknown}
 use Rattle.demi_memq.specs.Counting.{result_at}
@@ -32,6 +32,17 @@ use Rattle.demi_pdpix.specs.Seen.{AreAt, CallerValue, LogPass, MemPass, RxPass, 
 use Rattle.demi_pdpix.specs.Tries.{TriedAt, TriedJournal, TriedMemory, TriedRx, TriedTx}
 use Rattle.demi_pdpix.proofs.Columns.{at_port}
 
+-- what an outcome stands on where it is admitted in one way, it stands on where that admits it in another
+stands_as : {D T B : Type 0} (F G : List D → List (ℕ × T) → ℕ → Type 0) (token place : ℕ) (p q : PassValue D T B) → ((heard : List D) (told : List (ℕ × T)) (n : ℕ) → F heard told n → G heard told n)
+    → StandsOn F token place p q → StandsOn G token place p q
+stands_as F G token place p q gives s = record {
+  known = s.known;
+  handed = s.handed;
+  admitted = gives s.known.heard s.known.told place s.admitted;
+  below = s.below;
+  said = s.said;
+}
+
 pub for_memory : {K Q : Type 0} (L P O S T B : Type 0) (heap : HeapId) (token : ℕ) (p q : MemPass) (r : Redeem K Q MemOut MemOp (Unit {0}) HeapId)
     → p.port.key.base ≡ heap → TriedBy (λ b h t n o. (result_at 1024 h n ≡ Some (out_said o)) × IsFromHeap b o) token p q r
     → TriedMemory {L = L} {P = P} {O = O} {S = S} {T = T} {B = B} heap token p q (mem_answer r)
@@ -41,6 +52,8 @@ for_memory L P O S T B heap token p q (Ready n o) e h = record {
   pass = h.pass;
   done = h.done;
   own = h.own;
+  stands = stands_as (λ a t k. (result_at 1024 a k ≡ Some (out_said o)) × IsFromHeap p.port.key.base o)
+      (λ a t k. (result_at 1024 a k ≡ Some (out_said o)) × IsFromHeap heap o) token n.0 p q (λ a t k is. (is.0, subst (λ b. IsFromHeap b o) e is.1)) h.stands;
   once = h.once;
   later = h.later;
   grows = h.grows;
@@ -57,6 +70,8 @@ for_journal L P O S T B heap token p q (Ready n o) e h = record {
   pass = h.pass;
   done = h.done;
   own = h.own;
+  stands = stands_as (λ a t k. Admits p.port.key.base a t k o) (λ a t k. Admits p.port.key.base a t k o × IsFromLog heap o)
+      token n.0 p q (λ a t k is. (is, subst (λ b. IsFromLog b o) e is.3)) h.stands;
   once = h.once;
   later = h.later;
   grows = h.grows;
@@ -74,6 +89,8 @@ for_rx L P O S T B heap token p q (Ready n o) e h = record {
   pass = h.pass;
   done = h.done;
   own = h.own;
+  stands = stands_as (λ a t k. RxAdmits a t k o × IsOnHeap p.port.key.base o) (λ a t k. RxAdmits a t k o × IsOnHeap heap o)
+      token n.0 p q (λ a t k is. (is.0, subst (λ b. IsOnHeap b o) e is.1)) h.stands;
   once = h.once;
   later = h.later;
   grows = h.grows;
