@@ -93,6 +93,7 @@ asked_next ports a d half op place token f lt =
         writes = record { pushes = k.writes.pushes; texts = k.writes.texts; rises = k.writes.rises; below = k.writes.below; written = k.writes.written };
         read = k.read;
         refusal = k.refusal;
+        final = k.final;
         due = k.due;
       };
     }
@@ -150,6 +151,7 @@ plain_next ports s b d kind count behind sga sequence z h is_behind none fits nu
         writes = record { pushes = k.writes.pushes; texts = k.writes.texts; rises = k.writes.rises; below = k.writes.below; written = k.writes.written };
         read = k.read;
         refusal = k.refusal;
+        final = k.final;
         due = k.due;
       };
     }))

@@ -1,18 +1,19 @@
 -- What a link that is over read and wrote.
-use Rattle.std.specs.Prelude.{◌≡◌, ◌⊎◌, ℕ, ◌+◌, ◌<◌, ◌≤◌, true, Bool, List, [], ◌∷◌, ◌++◌, Option, Some, None, IfSome, length, map, refl, slice_get}
+use Rattle.std.specs.Prelude.{◌≡◌, ◌⊎◌, ℕ, ◌+◌, ◌<◌, ◌≤◌, true, false, Bool, List, [], ◌∷◌, ◌++◌, Option, Some, None, IfSome, length, map, refl, slice_get}
 use Rattle.std.specs.List.{AllByRecursion}
 use Rattle.std.proofs.Common.{sym, ◌∙◌, ap, arith, subst, inl, inr, append-nil, length-append}
 use Rattle.demi_device.specs.Serving.{RiseFrom}
 use Rattle.demi_frame.specs.Decoding.{Decoding}
 use Rattle.demi_frame.specs.Reading.{HasRead}
+use Rattle.demi_frame.specs.declared.decoder.Step.TheVariants as step
 use Rattle.demi_heap.specs.Seen.{HalfValue}
 use Rattle.demi_port_core.specs.History.{Among, Each}
 use Rattle.demi_port_core.specs.Trails.{Behind, StartsWith}
 use Rattle.demi_port_core.specs.declared.trail.Trail.{Trail}
 use Rattle.demi_spec.specs.Request.{Request}
-use Rattle.demi_spec.specs.Input.{Asked, Clean, EndFrame, Ending, Parses, Refused, Request_of, asked, asked_of}
+use Rattle.demi_spec.specs.Input.{Asked, Clean, EndFrame, Ending, Parses, Refused, Refused_end, Request_of, asked, asked_of}
 use Rattle.demi_streamq.specs.Receiving.{RxAdmits}
-use Rattle.demi_streamq.specs.RxKept.{all_bytes}
+use Rattle.demi_streamq.specs.RxKept.{IsEnd, all_bytes}
 use Rattle.demi_streamq.specs.Sending.{TxAdmits}
 use Rattle.demi_streamq.specs.declared.rx_op.RxOp.{RxOp}
 use Rattle.demi_streamq.specs.declared.rx_op.RxOp.TheVariants.{Pop}
@@ -26,7 +27,8 @@ use Rattle.demi_served.specs.Reading.{IsPlaceOf, Popped}
 use Rattle.demi_served.specs.Writing.{WroteAll, WroteBefore, texts_of}
 use Rattle.demi_served.proofs.Stepping.{first_link}
 use Rattle.demi_link.specs.Ends.{IsDone, IsKnown, new_desk}
-use Rattle.demi_link.specs.Fitting.{AllTaken, Fits, IsPush, IsTaken, IsWritten, ops_of, places}
+use Rattle.demi_link.specs.Fitting.{AllTaken, Fits, IsFinal, IsPush, IsTaken, IsWritten, ops_of, places}
+use Rattle.demi_link.specs.Heard.{LastCame}
 use Rattle.demi_link.specs.Linked.{IsFresh}
 use Rattle.demi_link.specs.Sights.{Sight, nothing_due, worker_of}
 use Rattle.demi_link.specs.Talks.{DeskValue, read_by, refusal}
@@ -65,6 +67,7 @@ fresh_fits ports link worker s w number low f = record {
     };
     read = record { text = refl; stops = tt };
     refusal = tt;
+    final = tt;
     due = λ before after x e. no_outs before after x e;
   };
 }
@@ -111,6 +114,40 @@ module _ (begins : (fed : List ℕ) (handed : List Request) (d : Decoding) (ende
   begins_asked cause.LogFault f known = first_asked cause.LogFault f f.agrees.4 f.agrees.3.0
   begins_asked cause.NoMemory f known = first_asked cause.NoMemory f f.agrees.4 f.agrees.3.0
   begins_asked cause.Lost f known = absurd known
+
+even_of : (ports : ℕ) (s : Sight) (d : DeskValue) (c : Cause) → Fits ports s d (Over c) → IsKnown c → read_by d.talk ≡ d.talk.kept.drawn
+even_of ports s d cause.Clean f known = f.agrees.3.0
+even_of ports s d cause.Bye f known = f.agrees.3.0
+even_of ports s d (cause.Refused code) f known = f.agrees.3.0
+even_of ports s d cause.ReadFault f known = f.agrees.3.0
+even_of ports s d cause.WriteFault f known = f.agrees.3.0
+even_of ports s d cause.LogFault f known = f.agrees.3.0
+even_of ports s d cause.NoMemory f known = f.agrees.3.0
+even_of ports s d cause.Lost f known = absurd known
+
+-- What it asked where its input did not end: that is asked by the text as far as it was fed.
+module _ (begins : (fed : List ℕ) (handed : List Request) (d : Decoding) (ended : Bool) → HasRead fed handed d → StartsWith (asked fed ended) (map Request_of handed))
+    (stopped : (fed : List ℕ) (handed : List Request) (d : Decoding) (ended : Bool) (code : ℕ) → HasRead fed handed d → d.stop ≡ Some (step.Refused code) → asked fed ended ≡ map Request_of handed ++ Refused_end code ∷ [])
+    (ports : ℕ) (s : Sight) (d : DeskValue) (c : Cause) (f : Fits ports s d (Over c)) (even : read_by d.talk ≡ d.talk.kept.drawn) (not_yet : LastCame IsEnd d.talk.outs → ⊥) where
+  open_by : (r : Option ℕ) → d.talk.refused ≡ r → StartsWith (asked (all_bytes d.talk.outs) false) d.talk.kept.drawn
+  open_by None e =
+      let bare : map Request_of d.talk.handed ≡ d.talk.kept.drawn = sym (append-nil (map Request_of d.talk.handed)) ∙ ap (λ (r : Option ℕ). map Request_of d.talk.handed ++ refusal r) (sym e) ∙ even in
+      subst (StartsWith (asked (all_bytes d.talk.outs) false)) bare (begins (all_bytes d.talk.outs) d.talk.handed d.decoder false f.keeps.read)
+  open_by (Some code) e =
+      let bare : map Request_of d.talk.handed ++ Refused_end code ∷ [] ≡ d.talk.kept.drawn = ap (λ (r : Option ℕ). map Request_of d.talk.handed ++ refusal r) (sym e) ∙ even in
+      elim (subst (λ (r : Option ℕ). IfSome r (λ x. IsFinal x d)) e f.keeps.final) [
+        | inl stop ↦ ([], stopped (all_bytes d.talk.outs) d.talk.handed d.decoder false code f.keeps.read stop ∙ bare ∙ sym (append-nil d.talk.kept.drawn))
+        | inr came ↦ absurd (not_yet came)
+      ]
+
+  pub open_asked : StartsWith (asked (all_bytes d.talk.outs) false) d.talk.kept.drawn
+  open_asked = open_by d.talk.refused refl
+
+pub asked_open :
+    ((fed : List ℕ) (handed : List Request) (d : Decoding) (ended : Bool) → HasRead fed handed d → StartsWith (asked fed ended) (map Request_of handed))
+    → ((fed : List ℕ) (handed : List Request) (d : Decoding) (ended : Bool) (code : ℕ) → HasRead fed handed d → d.stop ≡ Some (step.Refused code) → asked fed ended ≡ map Request_of handed ++ Refused_end code ∷ [])
+    → (ports : ℕ) (s : Sight) (d : DeskValue) (c : Cause) → Fits ports s d (Over c) → IsKnown c → (LastCame IsEnd d.talk.outs → ⊥) → StartsWith (asked (all_bytes d.talk.outs) false) d.talk.kept.drawn
+asked_open begins stopped ports s d c f known not_yet = open_asked begins stopped ports s d c f (even_of ports s d c f known) not_yet
 
 pub none_out : (ports : ℕ) (s : Sight) (d : DeskValue) (c : Cause) → Fits ports s d (Over c) → IsKnown c → s.out ≡ 0
 none_out ports s d cause.Clean f known = f.agrees.2

@@ -1,6 +1,6 @@
 -- What fits once the decoder handed a request out.
 use Rattle.std.specs.Prelude.{◌≡◌, ℕ, List, [], ◌∷◌, ◌++◌, Option, Some, None, IfSome, map, refl, false, true}
-use Rattle.std.proofs.Common.{sym, ◌∙◌, ap, subst, append-nil}
+use Rattle.std.proofs.Common.{sym, ◌∙◌, ap, subst, inl, append-nil}
 use Rattle.demi_frame.specs.Decoding.{Decoding}
 use Rattle.demi_frame.specs.Reading.{HasRead}
 use Rattle.demi_frame.specs.declared.decoder.Step.TheVariants as step
@@ -44,6 +44,7 @@ module _ (ports : ℕ) (s : Sight) (d : DeskValue) (decoder : Decoding) (f : Fit
     writes = record { pushes = k.writes.pushes; texts = k.writes.texts; rises = k.writes.rises; below = k.writes.below; written = k.writes.written };
     read = h;
     refusal = none_refused d.talk.refused _ f.agrees.0.0;
+    final = none_refused d.talk.refused _ f.agrees.0.0;
     due = λ before after x e. due_found d.talk.handed new d.talk.written before (k.due before after x e);
   }
 
@@ -52,7 +53,7 @@ module _ (ports : ℕ) (s : Sight) (d : DeskValue) (decoder : Decoding) (f : Fit
     reading = record {
       agrees = ((g.0.0, stop, g.0.2), g.1, g.2, g.3, g.4, g.5);
       worker = f.worker;
-      keeps = record { own = k.own; kept = k.kept; fits = k.fits; number = k.number; index = k.index; reads = k.reads; writes = k.writes; read = h; refusal = k.refusal; due = k.due };
+      keeps = record { own = k.own; kept = k.kept; fits = k.fits; number = k.number; index = k.index; reads = k.reads; writes = k.writes; read = h; refusal = k.refusal; final = none_refused d.talk.refused _ g.0.0; due = k.due };
     };
     room = room;
     hungry = hungry;
@@ -106,6 +107,7 @@ module _ (ports : ℕ) (s : Sight) (d : DeskValue) (decoder : Decoding) (f : Fit
           writes = record { pushes = k.writes.pushes; texts = k.writes.texts; rises = k.writes.rises; below = k.writes.below; written = k.writes.written };
           read = read;
           refusal = read_refused decoder (all_bytes d.talk.outs) d.talk.handed code stop read;
+          final = inl stop;
           due = k.due;
         };
       })

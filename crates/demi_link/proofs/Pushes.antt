@@ -59,6 +59,7 @@ pushed_next ports a d sga behind place token f lt up =
         writes = writes_pushed a.tx d.talk place token.token.0 sga k.writes up g.7;
         read = k.read;
         refusal = k.refusal;
+        final = k.final;
         due = k.due;
       };
     }

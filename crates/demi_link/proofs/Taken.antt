@@ -1,6 +1,6 @@
 -- What fits once a pop was submitted, and once it came to its outcome.
 use Rattle.std.specs.Prelude.{◌≡◌, ℕ, ◌+◌, ◌-◌, ◌<◌, ◌≤◌, ltb, cond, Bool, true, false, List, [], ◌∷◌, ◌++◌, Option, Some, None, IfSome, length, map, refl, slice_get, take}
-use Rattle.std.proofs.Common.{sym, ◌∙◌, ap, arith, subst, append-nil, append_assoc}
+use Rattle.std.proofs.Common.{sym, ◌∙◌, ap, arith, subst, inr, append-nil, append_assoc}
 use Rattle.std.proofs.lemmas.List.{take_all}
 use Rattle.demi_frame.specs.Decoding.{Decoding, after_feed}
 use Rattle.demi_frame.specs.Reading.{HasRead}
@@ -18,7 +18,7 @@ use Rattle.demi_streamq.specs.declared.rx_out.RxOut.TheVariants.{Piece, Stopped}
 use Rattle.demi_streamq.specs.declared.rx_told.RxTold.{RxTold}
 use Rattle.demi_streamq.specs.declared.rx_told.RxTold.TheVariants.{Bytes, AtEnd, Failed, Refused as NoPage}
 use Rattle.demi_served.specs.Keeps.{WorkerKeeps}
-use Rattle.demi_link.specs.Fitting.{Fits, IsHungry, Keeps, Noted, Took, places}
+use Rattle.demi_link.specs.Fitting.{Fits, IsFinal, IsHungry, Keeps, Noted, Took, places}
 use Rattle.demi_link.specs.Dues.{AllDue, IsMore}
 use Rattle.demi_link.specs.Heard.{IsReadFault, LastCame}
 use Rattle.demi_link.specs.Noting.{after_taken}
@@ -98,6 +98,7 @@ popped_next ports a d place token h lt up =
         writes = record { pushes = k.writes.pushes; texts = k.writes.texts; rises = k.writes.rises; below = k.writes.below; written = k.writes.written };
         read = k.read;
         refusal = k.refusal;
+        final = k.final;
         due = k.due;
       };
     }
@@ -147,6 +148,7 @@ module _ (ports : ℕ) (s : Sight) (d : DeskValue) (place : ℕ) (o : RxOut) (t 
     writes = record { pushes = k.writes.pushes; texts = k.writes.texts; rises = k.writes.rises; below = k.writes.below; written = k.writes.written };
     read = subst (λ (l : List ℕ). HasRead l d.talk.handed d.decoder) (sym (same_bytes none)) k.read;
     refusal = IfSome_same d.talk.refused k.refusal;
+    final = subst (λ (r : Option ℕ). IfSome r (λ code. IsFinal code (record d { talk = now }))) (sym t.fits.agrees.0.0) tt;
     due = all_due;
   })
     where
@@ -207,9 +209,9 @@ module _ (ports : ℕ) (s : Sight) (d : DeskValue) (place : ℕ) (o : RxOut) (t 
   }
 
   -- refused
-  pub taken_refused : (code : ℕ) → bytes_of o ≡ [] → pieces_of o ≡ 0 → Parses d.talk.handed (Refused code) true (all_bytes (d.talk.outs ++ (place, o) ∷ []))
+  pub taken_refused : (code : ℕ) → bytes_of o ≡ [] → pieces_of o ≡ 0 → IsEnd o → Parses d.talk.handed (Refused code) true (all_bytes (d.talk.outs ++ (place, o) ∷ []))
       → Fits ports s (record d { talk = record now { refused = Some code; request = Refused_end code } }) (Asking (kind.Refused code))
-  taken_refused code none no_piece parses =
+  taken_refused code none no_piece at_end parses =
       let g = t.fits.agrees in
       let k = keeps_taken none in
       let all : read_by d.talk ≡ d.talk.kept.drawn = g.1.0 in
@@ -235,6 +237,7 @@ module _ (ports : ℕ) (s : Sight) (d : DeskValue) (place : ℕ) (o : RxOut) (t 
           writes = record { pushes = k.writes.pushes; texts = k.writes.texts; rises = k.writes.rises; below = k.writes.below; written = k.writes.written };
           read = k.read;
           refusal = parses;
+          final = inr (last_came IsEnd at_end);
           due = k.due;
         };
       }
@@ -269,6 +272,7 @@ fed_next ports s z d place v decoder taken t freed all is reads =
         writes = record { pushes = k.writes.pushes; texts = k.writes.texts; rises = k.writes.rises; below = k.writes.below; written = k.writes.written };
         read = subst (λ (l : List ℕ). HasRead l d.talk.handed decoder) bytes (reads (all_bytes d.talk.outs) d.talk.handed k.read);
         refusal = subst (λ (r : Option ℕ). IfSome r (λ code. Parses d.talk.handed (Refused code) true (all_bytes (d.talk.outs ++ (place, Piece v) ∷ [])))) (sym g.0.0) tt;
+        final = subst (λ (r : Option ℕ). IfSome r (λ code. IsFinal code (record d { decoder = decoder; talk = after_taken d.talk place (Piece v) }))) (sym g.0.0) tt;
         due = all_due ports s d place (Piece v) t;
       };
     })
@@ -291,6 +295,7 @@ placed ports s d place at o t = let f = t.fits in let g = f.agrees in let k = f.
       writes = record { pushes = k.writes.pushes; texts = k.writes.texts; rises = k.writes.rises; below = k.writes.below; written = k.writes.written };
       read = k.read;
       refusal = k.refusal;
+      final = k.final;
       due = k.due;
     };
   };

@@ -85,6 +85,7 @@ module _ (ports : ℕ) (s : Sight) (d : DeskValue) (sequence : ℕ) (half : Opti
     writes = record { pushes = k.writes.pushes; texts = k.writes.texts; rises = k.writes.rises; below = k.writes.below; written = k.writes.written };
     read = k.read;
     refusal = k.refusal;
+    final = k.final;
     due = k.due;
   }
 
@@ -171,6 +172,7 @@ module _ (ports : ℕ) (s : Sight) (d : DeskValue) (sequence : ℕ) (half : Opti
           writes = record { pushes = k.writes.pushes; texts = k.writes.texts; rises = k.writes.rises; below = k.writes.below; written = k.writes.written };
           read = k.read;
           refusal = k.refusal;
+          final = k.final;
           due = k.due;
         };
       })
@@ -238,6 +240,7 @@ reply_next ports a b d draft head f is heap spelled answer most =
         writes = k.writes;
         read = k.read;
         refusal = k.refusal;
+        final = k.final;
         due = k.due;
       };
     })

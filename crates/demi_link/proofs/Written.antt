@@ -43,6 +43,7 @@ module _ (ports : ℕ) (s : Sight) (d : DeskValue) (place : ℕ) (behind : Optio
     writes = writes_tried w.before.tx s.tx d.talk place w.token.token.0 out k.writes w.redeems;
     read = k.read;
     refusal = k.refusal;
+    final = k.final;
     due = k.due;
   }
 
@@ -76,6 +77,7 @@ module _ (ports : ℕ) (s : Sight) (d : DeskValue) (place : ℕ) where
     writes = writes_written w.before.tx s.tx d.talk place w.token.token.0 k.writes w.redeems;
     read = k.read;
     refusal = k.refusal;
+    final = k.final;
     due = λ before after x e. due_written d.talk.handed d.talk.written place before (k.due before after x e);
   }
 

@@ -51,6 +51,7 @@ module _ (a b : Sight) (d : DeskValue) (g : LeavesBe d.link a b) where
     writes = subst (λ (p : Side TxOp ℕ). Writes p d.talk) (sym g.tx) k.writes;
     read = k.read;
     refusal = k.refusal;
+    final = k.final;
     due = k.due;
   }
     where

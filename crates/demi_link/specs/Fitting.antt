@@ -1,5 +1,5 @@
 -- How what a link did agrees with its worker's passes, and with where it stands.
-use Rattle.std.specs.Prelude.{◌≡◌, ℕ, ◌+◌, ◌-◌, ◌<◌, ◌≤◌, true, List, [], ◌∷◌, ◌++◌, Option, Some, None, length, map, slice_get, IfSome}
+use Rattle.std.specs.Prelude.{◌≡◌, ℕ, ◌+◌, ◌-◌, ◌<◌, ◌≤◌, ◌⊎◌, true, List, [], ◌∷◌, ◌++◌, Option, Some, None, length, map, slice_get, IfSome}
 use Rattle.std.specs.List.{AllByRecursion}
 use Rattle.demi_device.specs.Serving.{RiseFrom}
 use Rattle.demi_frame.specs.Reading.{HasRead}
@@ -85,6 +85,10 @@ pub record Writes (p : Side TxOp ℕ) (k : TalkValue) : Type 0 where
   pub below : AllByRecursion (λ x. x.0 < p.seen) p.submitted
   pub written : AllByRecursion (IsWritten p) k.written
 
+-- the decoder refused a frame with this code, or the input has ended
+abbrev pub IsFinal : ℕ → DeskValue → Type 0
+IsFinal code d = (d.decoder.stop ≡ Some (step.Refused code)) ⊎ LastCame IsEnd d.talk.outs
+
 -- What a link keeps of its worker: its draws, its replies, its two ports, that its decoder has handed out what it was fed,
 -- and that each of its pops was due.
 pub record Keeps (s : Sight) (d : DeskValue) : Type 0 where
@@ -97,6 +101,7 @@ pub record Keeps (s : Sight) (d : DeskValue) : Type 0 where
   pub writes : Writes s.tx d.talk
   pub read : HasRead (all_bytes d.talk.outs) d.talk.handed d.decoder
   pub refusal : IfSome d.talk.refused (λ code. Parses d.talk.handed (ends.Refused code) true (all_bytes d.talk.outs))
+  pub final : IfSome d.talk.refused (λ code. IsFinal code d)
   pub due : AllDue d.talk
 
 -- each pop came to its outcome

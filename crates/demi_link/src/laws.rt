@@ -1,5 +1,5 @@
 // Laws of what a link keeps: functions that do nothing.
-ghost use Rattle.std.specs.Prelude.{◌≡◌, ◌≢◌, ◌≤◌, ◌++◌, ◌∷◌, [], ℕ, List, None, Option, Some, length, slice_get, true};
+ghost use Rattle.std.specs.Prelude.{◌≡◌, ◌≢◌, ◌≤◌, ◌++◌, ◌∷◌, [], ℕ, List, None, Option, Some, false, length, slice_get, true};
 ghost use Rattle.std.specs.List.{AllByRecursion};
 ghost use Rattle.demi_heap.specs.Seen.{HalfValue};
 ghost use Rattle.demi_port_core.specs.History.{Among};
@@ -46,9 +46,11 @@ pub fn a_link_keeps_its_replies()
 {}
 
 /// What it asked is what it was fed asks: at any end but that of a lost link the requests that it drew numbers for are the
-/// first of these, and where its input came to an end they are all, and each has its reply.
+/// first of these, also where the input goes on and it did not end yet, and where its input came to an end they are all, and
+/// each has its reply.
 pub fn an_ended_link_asked_what_it_was_fed()
     ensures asks { (ports : ℕ) (s : Sight) (d : DeskValue) (c : Cause) → Fits ports s d (Over c) → IsKnown c → StartsWith (asked (all_bytes d.talk.outs) true) d.talk.kept.drawn }
+    ensures so_far { (ports : ℕ) (s : Sight) (d : DeskValue) (c : Cause) → Fits ports s d (Over c) → IsKnown c → (LastCame IsEnd d.talk.outs → ⊥) → StartsWith (asked (all_bytes d.talk.outs) false) d.talk.kept.drawn }
     ensures all { (ports : ℕ) (s : Sight) (d : DeskValue) (c : Cause) → Fits ports s d (Over c) → IsDone c → (asked (all_bytes d.talk.outs) true ≡ d.talk.kept.drawn) × (length d.talk.kept.replies ≡ length d.talk.kept.drawn) }
     ensures out { (ports : ℕ) (s : Sight) (d : DeskValue) (c : Cause) → Fits ports s d (Over c) → IsKnown c → s.out ≡ 0 }
 {

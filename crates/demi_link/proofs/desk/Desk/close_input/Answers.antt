@@ -27,7 +27,7 @@ prepare-requires g c =
     let e = c.in-Some.ensures in
     let outs = all_bytes (n.was.outs ++ (n.was.place, End) ∷ []) in
     let parses : Parses n.was.handed (ending_of None (Some code)) true outs = subst (λ x. Parses n.was.handed (ending_of x (Some code)) true outs) n.took.fits.agrees.0.1 (e.read outs n.was.handed k.read) in
-    let f = taken_refused ports s d n.was.place End n.took code refl refl parses in
+    let f = taken_refused ports s d n.was.place End n.took code refl refl tt parses in
     let talk : c.one_refused.result.value ≡ _ = c.one_refused.ensures ∙ ap (λ (t : TalkValue). record t { refused = Some code; request = Refused_end code }) n.now in
     subst (λ (x : Decoding). Fits ports s (record d { decoder = x; talk = c.one_refused.result.value }) (Asking (kind.Refused code))) (sym e.same)
     (subst (λ (t : TalkValue). Fits ports s (record d { talk = t }) (Asking (kind.Refused code))) (sym talk) f)

@@ -1,0 +1,4 @@
+mod Entries
+mod EndsTold
+mod LinkCloses
+mod OnlyCloses
