@@ -32,3 +32,20 @@ pub fn reply_head(kind: u8, worker: u8, sequence: u64, version: u64, length: u32
     head[18..22].copy_from_slice(&length.to_be_bytes());
     head
 }
+
+/// A reply as its head says it. Its bytes stand where it was read.
+#[derive(Clone, Copy, Debug, PartialEq, Eq)]
+pub struct Reply {
+    /// One of [`STORED`], [`FOUND`], [`MISSING`], [`REFUSED`], [`BYE`] and [`FULL`].
+    pub kind: u8,
+    /// The number of the worker that answered.
+    pub worker: u8,
+    /// The worker's sequence number.
+    pub sequence: u64,
+    /// The version that it names, 0 where it names none.
+    pub version: u64,
+    /// Where its bytes begin in what was read.
+    pub from: usize,
+    /// The number of its bytes.
+    pub length: u32,
+}

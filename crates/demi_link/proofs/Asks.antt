@@ -15,7 +15,7 @@ use Rattle.demi_served.specs.Keeps.{Draw, LinkKeeps, IsDrawn, IsReplied}
 use Rattle.demi_served.specs.Steps.{after_drawn}
 use Rattle.demi_served.proofs.Stepping.{link_asked, link_drawn, worker_asked, worker_drawn}
 use Rattle.demi_link.specs.Fitting.{Fits, HasClaimed, IsBehind, Keeps}
-use Rattle.demi_link.specs.Sights.{Side, Sight, Submits, worker_of}
+use Rattle.demi_link.specs.Sights.{Due, Side, Sight, Submits, worker_of}
 use Rattle.demi_link.specs.Stores.{halves_in}
 use Rattle.demi_link.specs.Talks.{DeskValue, TalkValue}
 use Rattle.demi_link.specs.declared.phase.Cause.{Cause}
@@ -40,14 +40,14 @@ sight_asked a d op place token = record a {
   store = record a.store { seen = place + 1; submitted = a.store.submitted ++ (place, (token, record { sequence = length a.draws + 1; op = op })) ∷ [] };
   draws = a.draws ++ draw_of d ∷ [];
   out = a.out - halves_in op;
-  due = a.due + 1;
+  due = record a.due { store = a.due.store + 1 };
 }
 
 pub asked_sight : (a b : Sight) (d : DeskValue) (op : StoreOp) (place token sequence : ℕ) → sequence ≡ length a.draws + 1 → Submits place a.store b.store token (record { sequence = sequence; op = op })
-    → b ≡ record a { store = b.store; draws = a.draws ++ draw_of d ∷ []; out = a.out - halves_in op; due = a.due + 1 } → b ≡ sight_asked a d op place token
+    → b ≡ record a { store = b.store; draws = a.draws ++ draw_of d ∷ []; out = a.out - halves_in op; due = record a.due { store = a.due.store + 1 } } → b ≡ sight_asked a d op place token
 asked_sight a b d op place token sequence number sub only =
-    only ∙ ap (λ (x : Side StoreAsk StoreTold). record a { store = x; draws = a.draws ++ draw_of d ∷ []; out = a.out - halves_in op; due = a.due + 1 }) sub.side
-    ∙ ap (λ (n : ℕ). record a { store = record a.store { seen = place + 1; submitted = a.store.submitted ++ (place, (token, record { sequence = n; op = op })) ∷ [] }; draws = a.draws ++ draw_of d ∷ []; out = a.out - halves_in op; due = a.due + 1 }) number
+    only ∙ ap (λ (x : Side StoreAsk StoreTold). record a { store = x; draws = a.draws ++ draw_of d ∷ []; out = a.out - halves_in op; due = record a.due { store = a.due.store + 1 } }) sub.side
+    ∙ ap (λ (n : ℕ). record a { store = record a.store { seen = place + 1; submitted = a.store.submitted ++ (place, (token, record { sequence = n; op = op })) ∷ [] }; draws = a.draws ++ draw_of d ∷ []; out = a.out - halves_in op; due = record a.due { store = a.due.store + 1 } }) number
 
 abbrev pub desk_drawn : DeskValue → TalkValue → DeskValue
 desk_drawn d talk = record d { index = d.index + 1; talk = talk }
@@ -80,7 +80,7 @@ asked_next ports a d half op place token f lt =
           here = among_last a.store.submitted x;
           drawn = last_drawn a.draws (draw_of d) (record { link = d.link; index = length d.talk.kept.replies; request = q }) (ap (λ (n : ℕ). record { link = d.link; index = n; request = q }) (sym even));
         },
-        (let e = g.9 in omega arith),
+        ap (λ (x : Due). record x { store = x.store + 1 }) g.9,
       );
       worker = worker_asked w d.link d.talk.kept.drawn q op place token.token.0 f.worker k.own asks;
       keeps = record {

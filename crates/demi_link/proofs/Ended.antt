@@ -30,7 +30,7 @@ use Rattle.demi_link.specs.Ends.{IsDone, IsKnown, new_desk}
 use Rattle.demi_link.specs.Fitting.{AllTaken, Fits, IsFinal, IsPush, IsTaken, IsWritten, ops_of, places}
 use Rattle.demi_link.specs.Heard.{LastCame}
 use Rattle.demi_link.specs.Linked.{IsFresh}
-use Rattle.demi_link.specs.Sights.{Sight, worker_of}
+use Rattle.demi_link.specs.Sights.{Sight, nothing_due, worker_of}
 use Rattle.demi_link.specs.Talks.{DeskValue, read_by, refusal}
 use Rattle.demi_link.specs.declared.phase.Cause.{Cause}
 use Rattle.demi_link.specs.declared.phase.Cause.TheVariants as cause
@@ -159,7 +159,7 @@ none_out ports s d cause.LogFault f known = f.agrees.2
 none_out ports s d cause.NoMemory f known = f.agrees.2
 none_out ports s d cause.Lost f known = absurd known
 
-pub none_due : (ports : ℕ) (s : Sight) (d : DeskValue) (c : Cause) → Fits ports s d (Over c) → IsKnown c → s.due ≡ 0
+pub none_due : (ports : ℕ) (s : Sight) (d : DeskValue) (c : Cause) → Fits ports s d (Over c) → IsKnown c → s.due ≡ nothing_due
 none_due ports s d cause.Clean f known = f.agrees.6
 none_due ports s d cause.Bye f known = f.agrees.6
 none_due ports s d (cause.Refused code) f known = f.agrees.6

@@ -9,7 +9,7 @@ use Rattle.demi_streamq.specs.declared.tx_op.TxOp.TheVariants.{Push}
 use Rattle.demi_served.specs.Steps.{after_reply}
 use Rattle.demi_served.proofs.Stepping.{link_replied}
 use Rattle.demi_link.specs.Fitting.{Fits}
-use Rattle.demi_link.specs.Sights.{Side, Sight, Submits, worker_of}
+use Rattle.demi_link.specs.Sights.{Due, Side, Sight, Submits, worker_of}
 use Rattle.demi_link.specs.Talks.{DeskValue, TalkValue}
 use Rattle.demi_link.specs.declared.phase.Cause.{Cause}
 use Rattle.demi_link.specs.declared.phase.Phase.TheVariants.{Sending, Pushing}
@@ -19,15 +19,15 @@ use Rattle.demi_link.proofs.Sides.{writes_pushed}
 
 -- the sight once the reply was pushed and its lent half freed
 abbrev pub sight_pushed : Sight → ℕ → ℕ → List HalfValue → Sight
-sight_pushed a place token sga = record a { tx = record a.tx { seen = place + 1; submitted = a.tx.submitted ++ (place, (token, Push sga)) ∷ [] }; out = a.out - length sga; due = a.due + 1 }
+sight_pushed a place token sga = record a { tx = record a.tx { seen = place + 1; submitted = a.tx.submitted ++ (place, (token, Push sga)) ∷ [] }; out = a.out - length sga; due = record a.due { tx = a.due.tx + 1 } }
 
 abbrev pub talk_replied : TalkValue → TalkValue
 talk_replied k = record k { kept = after_reply k.kept k.reply }
 
-pub pushed_sight : (a b c : Sight) (place token : ℕ) (sga half : List HalfValue) → Submits place a.tx b.tx token (Push sga) → b ≡ record a { tx = b.tx; due = a.due + 1 } → half ≡ sga → c ≡ record b { out = b.out - length half } → c ≡ sight_pushed a place token sga
+pub pushed_sight : (a b c : Sight) (place token : ℕ) (sga half : List HalfValue) → Submits place a.tx b.tx token (Push sga) → b ≡ record a { tx = b.tx; due = record a.due { tx = a.due.tx + 1 } } → half ≡ sga → c ≡ record b { out = b.out - length half } → c ≡ sight_pushed a place token sga
 pushed_sight a b c place token sga half sub only same e =
     let now : Side TxOp ℕ = record a.tx { seen = place + 1; submitted = a.tx.submitted ++ (place, (token, Push sga)) ∷ [] } in
-    let whole : b ≡ record a { tx = now; due = a.due + 1 } = only ∙ ap (λ (x : Side TxOp ℕ). record a { tx = x; due = a.due + 1 }) sub.side in
+    let whole : b ≡ record a { tx = now; due = record a.due { tx = a.due.tx + 1 } } = only ∙ ap (λ (x : Side TxOp ℕ). record a { tx = x; due = record a.due { tx = a.due.tx + 1 } }) sub.side in
     e ∙ ap (λ (h : List HalfValue). record b { out = b.out - length h }) same ∙ ap (λ (x : Sight). record x { out = x.out - length sga }) whole
 
 pub pushed_next : (ports : ℕ) (a : Sight) (d : DeskValue) (sga : List HalfValue) (behind : Option Cause) (place : ℕ) (token : QToken) → Fits ports a d (Sending sga behind) → token.port < ports → a.tx.seen ≤ place
@@ -46,7 +46,7 @@ pushed_next ports a d sga behind place token f lt up =
         lt,
         record { place = place; said = Push sga; last = places_next a.tx.submitted x ∙ ap (λ (l : List ℕ). l ++ place ∷ []) g.3; here = among_last a.tx.submitted x },
         (let o = g.4 in omega arith),
-        (let e = g.9 in omega arith),
+        ap (λ (x : Due). record x { tx = x.tx + 1 }) g.9,
       );
       worker = f.worker;
       keeps = record {

@@ -22,7 +22,7 @@ use Rattle.demi_link.specs.Fitting.{Fits, IsFinal, IsHungry, Keeps, Noted, Took,
 use Rattle.demi_link.specs.Dues.{AllDue, IsMore}
 use Rattle.demi_link.specs.Heard.{IsReadFault, LastCame}
 use Rattle.demi_link.specs.Noting.{after_taken}
-use Rattle.demi_link.specs.Sights.{Side, Sight, Submits, worker_of}
+use Rattle.demi_link.specs.Sights.{Due, Side, Sight, Submits, nothing_due, worker_of}
 use Rattle.demi_link.specs.Talks.{DeskValue, TalkValue, read_by, refusal}
 use Rattle.demi_link.specs.declared.phase.Cause.TheVariants as cause
 use Rattle.demi_link.specs.declared.phase.Kind.TheVariants as kind
@@ -63,10 +63,10 @@ piece_fits h t p v is a = piece_answer _ (slice_get h p) (over p t) (told_at p t
 
 -- the sight once it popped
 abbrev pub sight_popped : Sight → ℕ → ℕ → Sight
-sight_popped a place token = record a { rx = record a.rx { seen = place + 1; submitted = a.rx.submitted ++ (place, (token, Pop 4096)) ∷ [] }; due = a.due + 1 }
+sight_popped a place token = record a { rx = record a.rx { seen = place + 1; submitted = a.rx.submitted ++ (place, (token, Pop 4096)) ∷ [] }; due = record a.due { rx = a.due.rx + 1 } }
 
-pub popped_sight : (a b : Sight) (place token : ℕ) → Submits place a.rx b.rx token (Pop 4096) → b ≡ record a { rx = b.rx; due = a.due + 1 } → b ≡ sight_popped a place token
-popped_sight a b place token sub only = only ∙ ap (λ (x : Side RxOp RxTold). record a { rx = x; due = a.due + 1 }) sub.side
+pub popped_sight : (a b : Sight) (place token : ℕ) → Submits place a.rx b.rx token (Pop 4096) → b ≡ record a { rx = b.rx; due = record a.due { rx = a.due.rx + 1 } } → b ≡ sight_popped a place token
+popped_sight a b place token sub only = only ∙ ap (λ (x : Side RxOp RxTold). record a { rx = x; due = record a.due { rx = a.due.rx + 1 } }) sub.side
 
 pub popped_next : (ports : ℕ) (a : Sight) (d : DeskValue) (place : ℕ) (token : QToken) → IsHungry ports a d → token.port < ports → a.rx.seen ≤ place → Fits ports (sight_popped a place token.token.0) d (Popping token)
 popped_next ports a d place token h lt up =
@@ -84,7 +84,7 @@ popped_next ports a d place token h lt up =
         record { place = place; last = places_next a.rx.submitted x ∙ ap (λ (l : List ℕ). l ++ place ∷ []) g.2; here = among_last a.rx.submitted x },
         g.3,
         g.4,
-        (let e = g.5 in omega arith),
+        ap (λ (x : Due). record x { rx = x.rx + 1 }) g.5,
         h.due,
       );
       worker = f.worker;
@@ -127,7 +127,7 @@ module _ (ports : ℕ) (s : Sight) (d : DeskValue) (place : ℕ) (o : RxOut) (t 
 
   -- the sight as what it was before, with the pass as it is
   abbrev there : Sight
-  there = record t.before { rx = s.rx; out = t.before.out + pieces_of o; due = t.before.due - 1 }
+  there = record t.before { rx = s.rx; out = t.before.out + pieces_of o; due = record t.before.due { rx = t.before.due.rx - 1 } }
 
   -- each of its pops was due
   pub all_due : AllDue now
@@ -166,8 +166,8 @@ module _ (ports : ℕ) (s : Sight) (d : DeskValue) (place : ℕ) (o : RxOut) (t 
   pub none_out : pieces_of o ≡ 0 → s.out ≡ 0
   none_out e = let a = same_out in let b = t.fits.agrees.7 in omega arith
 
-  pub none_due : s.due ≡ 0
-  none_due = let a = ap (λ (x : Sight). x.due) t.is in let b = t.fits.agrees.8 in omega arith
+  pub none_due : s.due ≡ nothing_due
+  none_due = ap (λ (x : Sight). x.due) t.is ∙ ap (λ (x : Due). record x { rx = x.rx - 1 }) t.fits.agrees.8
 
   pub same_written : places s.tx.submitted ≡ d.talk.written
   same_written = ap (λ (x : Sight). places x.tx.submitted) t.is ∙ t.fits.agrees.6
@@ -256,9 +256,9 @@ fed_next ports s z d place v decoder taken t freed all is reads =
     let whole : take taken v.bytes ≡ v.bytes = ap (λ (n : ℕ). take n v.bytes) all ∙ take_all (length v.bytes) v.bytes (omega arith) in
     let bytes : all_bytes d.talk.outs ++ take taken v.bytes ≡ all_bytes (d.talk.outs ++ (place, Piece v) ∷ []) = ap (λ (l : List ℕ). all_bytes d.talk.outs ++ l) whole ∙ sym (bytes_next d.talk.outs place (Piece v)) in
     let stop : decoder.stop ≡ None = ap (λ (x : Decoding). x.stop) is ∙ g.0.1 in
-    let there : z ≡ record t.before { rx = s.rx; out = t.before.out + 1 - 1; due = t.before.due - 1 } = freed ∙ ap (λ (x : Sight). record x { out = x.out - 1 }) t.is in
+    let there : z ≡ record t.before { rx = s.rx; out = t.before.out + 1 - 1; due = record t.before.due { rx = t.before.due.rx - 1 } } = freed ∙ ap (λ (x : Sight). record x { out = x.out - 1 }) t.is in
     let none : t.before.out + 1 - 1 ≡ 0 = (let o = g.7 in omega arith) in
-    let settled : t.before.due - 1 ≡ 0 = (let o = g.8 in omega arith) in
+    let settled : record t.before.due { rx = t.before.due.rx - 1 } ≡ nothing_due = ap (λ (x : Due). record x { rx = x.rx - 1 }) g.8 in
     subst (λ (x : Sight). Fits ports x (record d { decoder = decoder; talk = after_taken d.talk place (Piece v) }) Reading) (sym there) (record {
       agrees = ((g.0.0, stop, all_next (λ (x : ℕ × RxOut). IsMore x.1) d.talk.outs (place, Piece v) g.0.2 tt), g.1, all_taken ports s d place (Piece v) t, g.6, none, settled);
       worker = t.fits.worker;

@@ -21,7 +21,7 @@ use Rattle.demi_served.proofs.Stepping.{link_answered, link_handed, worker_hande
 use Rattle.demi_link.specs.Heard.{IsLogFault, IsMemoryFault}
 use Rattle.demi_link.specs.Fitting.{Fits, HeardOf, IsSent, Keeps, Told, answer_as, body_of, reply_as, with_reply}
 use Rattle.demi_link.specs.Giving.{Says, segments_of, where_bytes}
-use Rattle.demi_link.specs.Sights.{Side, Sight, worker_of}
+use Rattle.demi_link.specs.Sights.{Due, Side, Sight, nothing_due, worker_of}
 use Rattle.demi_link.specs.Stores.{halves_back}
 use Rattle.demi_link.specs.Talks.{DeskValue}
 use Rattle.demi_link.specs.declared.phase.Cause.TheVariants as cause
@@ -38,10 +38,10 @@ module _ (ports : ℕ) (s : Sight) (d : DeskValue) (sequence : ℕ) (half : Opti
 
   -- the sight with so many halves out
   abbrev there : ℕ → Sight
-  there n = record t.before { store = record t.before.store { redeemed = t.before.store.redeemed ++ (t.place, t.token.token.0) ∷ []; known = known }; out = n; due = t.before.due - 1 }
+  there n = record t.before { store = record t.before.store { redeemed = t.before.store.redeemed ++ (t.place, t.token.token.0) ∷ []; known = known }; out = n; due = record t.before.due { store = t.before.due.store - 1 } }
 
   pub there_is : s ≡ there (t.before.out + halves_back out)
-  there_is = t.is ∙ ap (λ (x : Side StoreAsk StoreTold). record t.before { store = x; out = t.before.out + halves_back out; due = t.before.due - 1 }) t.redeems.side
+  there_is = t.is ∙ ap (λ (x : Side StoreAsk StoreTold). record t.before { store = x; out = t.before.out + halves_back out; due = record t.before.due { store = t.before.due.store - 1 } }) t.redeems.side
 
   abbrev pending_ask : StoreAsk
   pending_ask = record { sequence = sequence; op = t.fits.agrees.6.asked }
@@ -89,8 +89,8 @@ module _ (ports : ℕ) (s : Sight) (d : DeskValue) (sequence : ℕ) (half : Opti
     due = k.due;
   }
 
-  none_due : t.before.due - 1 ≡ 0
-  none_due = let g = t.fits.agrees.7 in omega arith
+  none_due : record t.before.due { store = t.before.due.store - 1 } ≡ nothing_due
+  none_due = ap (λ (x : Due). record x { store = x.store - 1 }) t.fits.agrees.7
 
   -- what it heard
   heard : (P : StoreAnswer → Type 0) → P out.answer → HeardOf P (there 0) d

@@ -10,7 +10,7 @@ use Rattle.demi_link.specs.Causes.{EndsFor}
 use Rattle.demi_link.specs.Events.{TxCame}
 use Rattle.demi_link.specs.Heard.{IsWriteFault}
 use Rattle.demi_link.specs.Fitting.{Fits, IsBehind, IsOver, Keeps, Wrote, places}
-use Rattle.demi_link.specs.Sights.{Side, Sight}
+use Rattle.demi_link.specs.Sights.{Due, Side, Sight, nothing_due}
 use Rattle.demi_link.specs.Talks.{DeskValue, TalkValue}
 use Rattle.demi_link.specs.declared.phase.Cause.{Cause}
 use Rattle.demi_link.specs.declared.phase.Cause.TheVariants as cause
@@ -21,7 +21,7 @@ use Rattle.demi_link.proofs.Sides.{writes_tried, writes_written}
 
 module _ (ports : ℕ) (s : Sight) (d : DeskValue) (place : ℕ) (behind : Option Cause) (out : TxOut) (w : Wrote ports s d place behind out) where
   abbrev there : Sight
-  there = record w.before { tx = s.tx; due = w.before.due - 1 }
+  there = record w.before { tx = s.tx; due = record w.before.due { tx = w.before.due.tx - 1 } }
 
   own_place : w.fits.agrees.4.place ≡ place
   own_place = w.redeems.own w.fits.agrees.4.place w.fits.agrees.4.said w.fits.agrees.4.here
@@ -29,8 +29,8 @@ module _ (ports : ℕ) (s : Sight) (d : DeskValue) (place : ℕ) (behind : Optio
   pub all_but_last : places s.tx.submitted ≡ d.talk.written ++ place ∷ []
   all_but_last = ap (λ (x : Side TxOp ℕ). places x.submitted) w.redeems.side ∙ w.fits.agrees.4.last ∙ ap (λ (n : ℕ). d.talk.written ++ n ∷ []) own_place
 
-  pub none_due : w.before.due - 1 ≡ 0
-  none_due = let g = w.fits.agrees.6 in omega arith
+  pub none_due : record w.before.due { tx = w.before.due.tx - 1 } ≡ nothing_due
+  none_due = ap (λ (x : Due). record x { tx = x.tx - 1 }) w.fits.agrees.6
 
   keeps_tried : Keeps there d
   keeps_tried = let k = w.fits.keeps in record {
@@ -66,7 +66,7 @@ abbrev pub desk_written : DeskValue → ℕ → DeskValue
 desk_written d place = record d { talk = talk_written d.talk place }
 
 module _ (ports : ℕ) (s : Sight) (d : DeskValue) (place : ℕ) where
-  keeps_written : (behind : Option Cause) → (w : Wrote ports s d place behind Pushed) → Keeps (record w.before { tx = s.tx; due = w.before.due - 1 }) (desk_written d place)
+  keeps_written : (behind : Option Cause) → (w : Wrote ports s d place behind Pushed) → Keeps (record w.before { tx = s.tx; due = record w.before.due { tx = w.before.due.tx - 1 } }) (desk_written d place)
   keeps_written behind w = let k = w.fits.keeps in record {
     own = k.own;
     kept = k.kept;
@@ -89,7 +89,7 @@ module _ (ports : ℕ) (s : Sight) (d : DeskValue) (place : ℕ) where
     keeps = keeps_written None w;
   })
 
-  over_by : (c : Cause) → (w : Wrote ports s d place (Some c) Pushed) → IsOver (record w.before { tx = s.tx; due = w.before.due - 1 }) (desk_written d place) c
+  over_by : (c : Cause) → (w : Wrote ports s d place (Some c) Pushed) → IsOver (record w.before { tx = s.tx; due = record w.before.due { tx = w.before.due.tx - 1 } }) (desk_written d place) c
   over_by cause.Clean w = absurd w.fits.agrees.0
   over_by cause.Bye w = let g = w.fits.agrees in (g.2, all_but_last ports s d place (Some cause.Bye) Pushed w, g.5, g.1, read_bye d.decoder (all_bytes d.talk.outs) d.talk.handed g.0.2 w.fits.keeps.read, g.0.1, none_due ports s d place (Some cause.Bye) Pushed w)
   over_by (cause.Refused code) w = let g = w.fits.agrees in

@@ -36,7 +36,7 @@ use Rattle.demi_served.specs.Writing.{texts_of}
 use Rattle.demi_link.specs.Dues.{AllDue, AllMore, IsDue}
 use Rattle.demi_link.specs.Heard.{CameAt, IsLogFault, IsMemoryFault, IsReadFault, IsWriteFault, LastCame, WasTold}
 use Rattle.demi_link.specs.Noting.{after_taken}
-use Rattle.demi_link.specs.Sights.{Redeems, Side, Sight, worker_of}
+use Rattle.demi_link.specs.Sights.{Redeems, Side, Sight, nothing_due, one_ask_due, one_pop_due, one_push_due, worker_of}
 use Rattle.demi_link.specs.Stores.{halves_in, halves_back}
 use Rattle.demi_link.specs.Talks.{DeskValue, TalkValue, read_by}
 use Rattle.demi_link.specs.declared.phase.Cause.{Cause}
@@ -220,28 +220,28 @@ HeardOf P s d = WasTold P s.base (worker_of s) d.link (length d.talk.kept.replie
 -- half is left, no token is to be redeemed, and each push was written, but the last where a write failed; and it heard
 -- why it is over.
 abbrev pub IsOver : Sight → DeskValue → Cause → Type 0
-IsOver s d cause.Clean = AllTaken s d × AllWritten s d × (s.out ≡ 0) × IsEven d.talk × Parses d.talk.handed ends.Clean true (all_bytes d.talk.outs) × (d.talk.refused ≡ None) × (s.due ≡ 0) × LastCame IsEnd d.talk.outs
-IsOver s d cause.Bye = AllTaken s d × AllWritten s d × (s.out ≡ 0) × IsEven d.talk × Parses d.talk.handed ends.EndFrame true (all_bytes d.talk.outs) × (d.talk.refused ≡ None) × (s.due ≡ 0)
-IsOver s d (cause.Refused code) = AllTaken s d × AllWritten s d × (s.out ≡ 0) × IsEven d.talk × Parses d.talk.handed (ends.Refused code) true (all_bytes d.talk.outs) × (d.talk.refused ≡ Some code) × (s.due ≡ 0)
-IsOver s d cause.ReadFault = AllTaken s d × AllWritten s d × (s.out ≡ 0) × IsEven d.talk × (d.talk.refused ≡ None) × (s.due ≡ 0) × LastCame IsReadFault d.talk.outs
-IsOver s d cause.WriteFault = AllTaken s d × ((place : ℕ) × (places s.tx.submitted ≡ d.talk.written ++ place ∷ []) × CameAt IsWriteFault s.tx place) × (s.out ≡ 0) × IsEven d.talk × (s.due ≡ 0)
-IsOver s d cause.LogFault = AllTaken s d × AllWritten s d × (s.out ≡ 0) × IsAsked d.talk × (d.talk.refused ≡ None) × (s.due ≡ 0) × HeardOf IsLogFault s d
-IsOver s d cause.NoMemory = AllTaken s d × AllWritten s d × (s.out ≡ 0) × IsAsked d.talk × (d.talk.refused ≡ None) × (s.due ≡ 0) × HeardOf IsMemoryFault s d
+IsOver s d cause.Clean = AllTaken s d × AllWritten s d × (s.out ≡ 0) × IsEven d.talk × Parses d.talk.handed ends.Clean true (all_bytes d.talk.outs) × (d.talk.refused ≡ None) × (s.due ≡ nothing_due) × LastCame IsEnd d.talk.outs
+IsOver s d cause.Bye = AllTaken s d × AllWritten s d × (s.out ≡ 0) × IsEven d.talk × Parses d.talk.handed ends.EndFrame true (all_bytes d.talk.outs) × (d.talk.refused ≡ None) × (s.due ≡ nothing_due)
+IsOver s d (cause.Refused code) = AllTaken s d × AllWritten s d × (s.out ≡ 0) × IsEven d.talk × Parses d.talk.handed (ends.Refused code) true (all_bytes d.talk.outs) × (d.talk.refused ≡ Some code) × (s.due ≡ nothing_due)
+IsOver s d cause.ReadFault = AllTaken s d × AllWritten s d × (s.out ≡ 0) × IsEven d.talk × (d.talk.refused ≡ None) × (s.due ≡ nothing_due) × LastCame IsReadFault d.talk.outs
+IsOver s d cause.WriteFault = AllTaken s d × ((place : ℕ) × (places s.tx.submitted ≡ d.talk.written ++ place ∷ []) × CameAt IsWriteFault s.tx place) × (s.out ≡ 0) × IsEven d.talk × (s.due ≡ nothing_due)
+IsOver s d cause.LogFault = AllTaken s d × AllWritten s d × (s.out ≡ 0) × IsAsked d.talk × (d.talk.refused ≡ None) × (s.due ≡ nothing_due) × HeardOf IsLogFault s d
+IsOver s d cause.NoMemory = AllTaken s d × AllWritten s d × (s.out ≡ 0) × IsAsked d.talk × (d.talk.refused ≡ None) × (s.due ≡ nothing_due) × HeardOf IsMemoryFault s d
 IsOver s d cause.Lost = Unit {0}
 
 -- how what a link did agrees with where it stands, on so many ports
 abbrev pub Agrees : ℕ → Sight → DeskValue → Phase → Type 0
-Agrees ports s d Reading = GoesOn d × IsEven d.talk × AllTaken s d × AllWritten s d × (s.out ≡ 0) × (s.due ≡ 0)
-Agrees ports s d (Popping token) = GoesOn d × IsEven d.talk × HasRoom d × (d.decoder.hungry ≡ true) × (token.port < ports) × IsPopping s d token.token.0 × AllWritten s d × (s.out ≡ 0) × (s.due ≡ 1)
+Agrees ports s d Reading = GoesOn d × IsEven d.talk × AllTaken s d × AllWritten s d × (s.out ≡ 0) × (s.due ≡ nothing_due)
+Agrees ports s d (Popping token) = GoesOn d × IsEven d.talk × HasRoom d × (d.decoder.hungry ≡ true) × (token.port < ports) × IsPopping s d token.token.0 × AllWritten s d × (s.out ≡ 0) × (s.due ≡ one_pop_due)
     × IsDue d.talk.handed d.talk.written d.talk.outs
-Agrees ports s d (Asking kind) = IsKind kind d × HasRoom d × IsAtHand d.talk × AllTaken s d × AllWritten s d × (s.out ≡ 0) × (s.due ≡ 0)
+Agrees ports s d (Asking kind) = IsKind kind d × HasRoom d × IsAtHand d.talk × AllTaken s d × AllWritten s d × (s.out ≡ 0) × (s.due ≡ nothing_due)
 Agrees ports s d (Holding half asked) = GoesOn d × HasRoom d × IsAtHand d.talk × AllTaken s d × AllWritten s d × (s.out ≡ lent_out half + halves_in asked)
-    × (ask_of d.link d.index d.talk.request ≡ Some (asks_for asked)) × IsProperOp asked × HasHalves s.heap half asked × (s.due ≡ 0)
-Agrees ports s d (Waiting token sequence half) = GoesOn d × IsAsked d.talk × AllTaken s d × AllWritten s d × (s.out ≡ lent_out half) × (token.port < ports) × IsPending s d token.token.0 sequence half × (s.due ≡ 1)
+    × (ask_of d.link d.index d.talk.request ≡ Some (asks_for asked)) × IsProperOp asked × HasHalves s.heap half asked × (s.due ≡ nothing_due)
+Agrees ports s d (Waiting token sequence half) = GoesOn d × IsAsked d.talk × AllTaken s d × AllWritten s d × (s.out ≡ lent_out half) × (token.port < ports) × IsPending s d token.token.0 sequence half × (s.due ≡ one_ask_due)
 Agrees ports s d (Replying draft) = GoesOn d × IsAsked d.talk × AllTaken s d × AllWritten s d × (s.out ≡ length (body_of draft.body)) × IsReady s d × AreOf s.heap (body_of draft.body) × (length (body_of draft.body) ≤ 1)
-    × (length (array_bytes (body_of draft.body)) ≤ 65536) × IsSent draft.answer draft.body × (d.talk.reply ≡ reply_as d.talk.kept.worker draft) × (s.due ≡ 0)
-Agrees ports s d (Sending sga behind) = IsBehind behind d × IsAsked d.talk × AllTaken s d × AllWritten s d × (s.out ≡ length sga) × IsReady s d × AreOf s.heap sga × (array_bytes sga ≡ spelling d.talk.reply) × IsReply d.talk.reply × (s.due ≡ 0)
-Agrees ports s d (Pushing token behind) = IsBehind behind d × IsEven d.talk × AllTaken s d × (token.port < ports) × IsPushing s d token.token.0 × (s.out ≡ 0) × (s.due ≡ 1)
+    × (length (array_bytes (body_of draft.body)) ≤ 65536) × IsSent draft.answer draft.body × (d.talk.reply ≡ reply_as d.talk.kept.worker draft) × (s.due ≡ nothing_due)
+Agrees ports s d (Sending sga behind) = IsBehind behind d × IsAsked d.talk × AllTaken s d × AllWritten s d × (s.out ≡ length sga) × IsReady s d × AreOf s.heap sga × (array_bytes sga ≡ spelling d.talk.reply) × IsReply d.talk.reply × (s.due ≡ nothing_due)
+Agrees ports s d (Pushing token behind) = IsBehind behind d × IsEven d.talk × AllTaken s d × (token.port < ports) × IsPushing s d token.token.0 × (s.out ≡ 0) × (s.due ≡ one_push_due)
 Agrees ports s d (Over cause) = IsOver s d cause
 Agrees ports s d Between = ⊥
 
@@ -257,7 +257,7 @@ pub record Took (ports : ℕ) (s : Sight) (d : DeskValue) (place : ℕ) (outcome
   pub token : QToken
   pub fits : Fits ports before d (Popping token)
   pub redeems : Redeems (λ h t p. RxAdmits h t p outcome × IsFrom before.heap outcome) token.token.0 place before.rx s.rx
-  pub is : s ≡ record before { rx = s.rx; out = before.out + pieces_of outcome; due = before.due - 1 }
+  pub is : s ≡ record before { rx = s.rx; out = before.out + pieces_of outcome; due = record before.due { rx = before.due.rx - 1 } }
 
 -- The store's operation of a link that waited for it came to this outcome.
 pub record Told (ports : ℕ) (s : Sight) (d : DeskValue) (sequence : ℕ) (half : Option LentValue) (outcome : StoreOut) : Type 0 where
@@ -266,7 +266,7 @@ pub record Told (ports : ℕ) (s : Sight) (d : DeskValue) (sequence : ℕ) (half
   pub place : ℕ
   pub fits : Fits ports before d (Waiting token sequence half)
   pub redeems : Redeems (λ h t p. Admits before.base h t p outcome) token.token.0 place before.store s.store
-  pub is : s ≡ record before { store = s.store; out = before.out + halves_back outcome; due = before.due - 1 }
+  pub is : s ≡ record before { store = s.store; out = before.out + halves_back outcome; due = record before.due { store = before.due.store - 1 } }
 
 -- The push of a link that waited for it came to this outcome, at this place.
 pub record Wrote (ports : ℕ) (s : Sight) (d : DeskValue) (place : ℕ) (behind : Option Cause) (outcome : TxOut) : Type 0 where
@@ -274,7 +274,7 @@ pub record Wrote (ports : ℕ) (s : Sight) (d : DeskValue) (place : ℕ) (behind
   pub token : QToken
   pub fits : Fits ports before d (Pushing token behind)
   pub redeems : Redeems (λ h t p. TxAdmits h t p outcome) token.token.0 place before.tx s.tx
-  pub is : s ≡ record before { tx = s.tx; due = before.due - 1 }
+  pub is : s ≡ record before { tx = s.tx; due = record before.due { tx = before.due.tx - 1 } }
 
 -- The link has noted the outcome of its pop, and its decoder was not told yet.
 pub record Noted (ports : ℕ) (s : Sight) (d : DeskValue) (outcome : RxOut) : Type 0 where

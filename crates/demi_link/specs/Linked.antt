@@ -2,7 +2,7 @@
 use Rattle.std.specs.Prelude.{◌≡◌, ◌≢◌, ℕ, []}
 use Rattle.std.specs.List.{AllByRecursion}
 use Rattle.demi_sched.specs.declared.next.Next.{Next}
-use Rattle.demi_link.specs.Sights.{Sight}
+use Rattle.demi_link.specs.Sights.{Sight, nothing_due}
 use Rattle.demi_link.specs.Talks.{DeskValue}
 use Rattle.demi_link.specs.declared.phase.Phase.{Phase}
 
@@ -19,4 +19,4 @@ pub record IsFresh (s : Sight) (link : ℕ) : Type 0 where
   pub pops : s.rx.submitted ≡ []
   pub pushes : s.tx.submitted ≡ []
   pub out : s.out ≡ 0
-  pub due : s.due ≡ 0
+  pub due : s.due ≡ nothing_due

@@ -25,10 +25,29 @@ pub record Side (D T : Type 0) : Type 0 where
 abbrev pub side_of : {D T B : Type 0} → PassValue D T B → Side D T
 side_of p = record { seen = p.seen; submitted = p.submitted; redeemed = p.redeemed; known = known_by p }
 
+-- How many tokens of a link's submissions have not been redeemed yet: at the store's port, at the receiving and at the
+-- sending one.
+pub record Due : Type 0 where
+  pub store : ℕ
+  pub rx : ℕ
+  pub tx : ℕ
+
+abbrev pub nothing_due : Due
+nothing_due = record { store = 0; rx = 0; tx = 0 }
+
+abbrev pub one_ask_due : Due
+one_ask_due = record { store = 1; rx = 0; tx = 0 }
+
+abbrev pub one_pop_due : Due
+one_pop_due = record { store = 0; rx = 1; tx = 0 }
+
+abbrev pub one_push_due : Due
+one_push_due = record { store = 0; rx = 0; tx = 1 }
+
 -- What a worker has for one of its links: the heap, what the store stands on, the worker's number, its pass of the store's
 -- port, for what it drew its sequence numbers, its passes of the link's two ports, how many application halves its calls
--- for the link have taken and not given back, and how many tokens of its submissions for the link, at the store's port and
--- at the link's two, have not been redeemed yet.
+-- for the link have taken and not given back, and how many tokens of its submissions for the link, port by port, have not
+-- been redeemed yet.
 pub record Sight : Type 0 where
   pub heap : HeapId
   pub base : StoreBasis
@@ -38,7 +57,7 @@ pub record Sight : Type 0 where
   pub rx : Side RxOp RxTold
   pub tx : Side TxOp ℕ
   pub out : ℕ
-  pub due : ℕ
+  pub due : Due
 
 abbrev pub worker_of : Sight → Worker
 worker_of s = record { submitted = s.store.submitted; known = s.store.known; draws = s.draws }

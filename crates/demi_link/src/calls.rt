@@ -107,17 +107,17 @@ pub trait Calls: Scanner {
     fn pop(&mut self, link: u16) -> Result<QToken, NoToken>
         ensures port { IfOk result (λ r. r.port < Self.ports self.old) }
         ensures ok { IfOk result (λ r. (place : ℕ) × Submits place (sight self.old link).rx (sight self.new link).rx r.token.0 (pop_op 4096)) }
-        ensures only { IfOk result (λ r. (sight self.new link ≡ record (sight self.old link) { rx = (sight self.new link).rx; due = (sight self.old link).due + 1 }) × Adds (events self.old) (events self.new) (Gave r)) }
+        ensures only { IfOk result (λ r. (sight self.new link ≡ record (sight self.old link) { rx = (sight self.new link).rx; due = record (sight self.old link).due { rx = (sight self.old link).due.rx + 1 } }) × Adds (events self.old) (events self.new) (Gave r)) }
         ensures err { IfErr result (λ _. (sight self.new link ≡ sight self.old link) × Adds (events self.old) (events self.new) NoTokenFound) }
         ensures seen { Self.seen self.new ≡ Self.seen self.old }
         ensures begun { Self.begun self.new ≡ Self.begun self.old }
         ensures goes { Self.goes link self.old self.new };
 
-    /// What the token's pop came to. The link has a token that is to be redeemed.
+    /// What the token's pop came to. The link has a pop whose token is to be redeemed.
     fn try_rx(&mut self, link: u16, token: QToken) -> Redeem<RxLaw>
-        requires due { 1 ≤ (sight self.old link).due }
+        requires due { 1 ≤ (sight self.old link).due.rx }
         ensures tried { TriedBy (λ o h t p. RxAdmits h t p o × IsFrom (sight self.old link).heap o) token.token.0 (sight self.old link).rx (sight self.new link).rx result }
-        ensures only { sight self.new link ≡ record (sight self.old link) { rx = (sight self.new link).rx; out = (sight self.old link).out + brought pieces_of result; due = (sight self.old link).due - settled result } }
+        ensures only { sight self.new link ≡ record (sight self.old link) { rx = (sight self.new link).rx; out = (sight self.old link).out + brought pieces_of result; due = record (sight self.old link).due { rx = (sight self.old link).due.rx - settled result } } }
         ensures events { Adds (events self.old) (events self.new) (tried RxCame token result) }
         ensures seen { Self.seen self.new ≡ Self.seen self.old }
         ensures begun { Self.begun self.new ≡ Self.begun self.old }
@@ -143,7 +143,7 @@ pub trait Calls: Scanner {
         ensures port { IfOk result (λ r. r.0.port < Self.ports self.old) }
         ensures number { IfOk result (λ r. (r.1 ≡ length (sight self.old link).draws + 1) × (r.1 ≤ 18446744073709551615)) }
         ensures ok { IfOk result (λ r. (place : ℕ) × Submits place (sight self.old link).store (sight self.new link).store r.0.token.0 (record { sequence = r.1; op = op })) }
-        ensures only { IfOk result (λ r. (sight self.new link ≡ record (sight self.old link) { store = (sight self.new link).store; draws = (sight self.old link).draws ++ record { link = link; index = length talk.now.value.kept.drawn; request = talk.now.value.request } ∷ []; out = (sight self.old link).out - halves_in op; due = (sight self.old link).due + 1 }) × Adds (events self.old) (events self.new) (Gave r.0)) }
+        ensures only { IfOk result (λ r. (sight self.new link ≡ record (sight self.old link) { store = (sight self.new link).store; draws = (sight self.old link).draws ++ record { link = link; index = length talk.now.value.kept.drawn; request = talk.now.value.request } ∷ []; out = (sight self.old link).out - halves_in op; due = record (sight self.old link).due { store = (sight self.old link).due.store + 1 } }) × Adds (events self.old) (events self.new) (Gave r.0)) }
         ensures err { IfErr result (λ o. (o ≡ op) × (sight self.new link ≡ sight self.old link) × Adds (events self.old) (events self.new) NoTokenFound) }
         ensures seen { Self.seen self.new ≡ Self.seen self.old }
         ensures begun { Self.begun self.new ≡ Self.begun self.old }
@@ -151,9 +151,9 @@ pub trait Calls: Scanner {
 
     /// What the token's operation of the store came to, likewise.
     fn try_store(&mut self, link: u16, token: QToken) -> Redeem<StoreLaw>
-        requires due { 1 ≤ (sight self.old link).due }
+        requires due { 1 ≤ (sight self.old link).due.store }
         ensures tried { TriedBy (λ o h t p. Admits (sight self.old link).base h t p o) token.token.0 (sight self.old link).store (sight self.new link).store result }
-        ensures only { sight self.new link ≡ record (sight self.old link) { store = (sight self.new link).store; out = (sight self.old link).out + brought halves_back result; due = (sight self.old link).due - settled result } }
+        ensures only { sight self.new link ≡ record (sight self.old link) { store = (sight self.new link).store; out = (sight self.old link).out + brought halves_back result; due = record (sight self.old link).due { store = (sight self.old link).due.store - settled result } } }
         ensures events { Adds (events self.old) (events self.new) (tried store_came token result) }
         ensures seen { Self.seen self.new ≡ Self.seen self.old }
         ensures begun { Self.begun self.new ≡ Self.begun self.old }
@@ -165,7 +165,7 @@ pub trait Calls: Scanner {
         ensures port { IfOk result (λ r. r.0.port < Self.ports self.old) }
         ensures half { IfOk result (λ r. r.1 ≡ record { segments = sga; back = 0 }) }
         ensures ok { IfOk result (λ r. (place : ℕ) × Submits place (sight self.old link).tx (sight self.new link).tx r.0.token.0 (push_op sga)) }
-        ensures only { IfOk result (λ r. (sight self.new link ≡ record (sight self.old link) { tx = (sight self.new link).tx; due = (sight self.old link).due + 1 }) × Adds (events self.old) (events self.new) (Gave r.0)) }
+        ensures only { IfOk result (λ r. (sight self.new link ≡ record (sight self.old link) { tx = (sight self.new link).tx; due = record (sight self.old link).due { tx = (sight self.old link).due.tx + 1 } }) × Adds (events self.old) (events self.new) (Gave r.0)) }
         ensures err { IfErr result (λ a. (a ≡ sga) × (sight self.new link ≡ sight self.old link) × Adds (events self.old) (events self.new) NoTokenFound) }
         ensures seen { Self.seen self.new ≡ Self.seen self.old }
         ensures begun { Self.begun self.new ≡ Self.begun self.old }
@@ -173,9 +173,9 @@ pub trait Calls: Scanner {
 
     /// What the token's push came to, likewise.
     fn try_tx(&mut self, link: u16, token: QToken) -> Redeem<TxLaw>
-        requires due { 1 ≤ (sight self.old link).due }
+        requires due { 1 ≤ (sight self.old link).due.tx }
         ensures tried { TriedBy (λ o h t p. TxAdmits h t p o) token.token.0 (sight self.old link).tx (sight self.new link).tx result }
-        ensures only { sight self.new link ≡ record (sight self.old link) { tx = (sight self.new link).tx; due = (sight self.old link).due - settled result } }
+        ensures only { sight self.new link ≡ record (sight self.old link) { tx = (sight self.new link).tx; due = record (sight self.old link).due { tx = (sight self.old link).due.tx - settled result } } }
         ensures events { Adds (events self.old) (events self.new) (tried TxCame token result) }
         ensures seen { Self.seen self.new ≡ Self.seen self.old }
         ensures begun { Self.begun self.new ≡ Self.begun self.old }

@@ -23,7 +23,7 @@ ghost use Rattle.demi_link.specs.Ends.{IsDone, IsKnown, new_desk};
 ghost use Rattle.demi_link.specs.Fitting.{Fits, HeardOf, IsAsked, ops_of, places};
 ghost use Rattle.demi_link.specs.Heard.{CameAt, IsLogFault, IsMemoryFault, IsReadFault, IsWriteFault, LastCame};
 ghost use Rattle.demi_link.specs.Linked.{IsFresh};
-ghost use Rattle.demi_link.specs.Sights.{Sight, worker_of};
+ghost use Rattle.demi_link.specs.Sights.{Sight, nothing_due, worker_of};
 ghost use Rattle.demi_link.specs.Talks.{DeskValue};
 ghost use Rattle.demi_link.specs.declared.phase.Cause.{Cause};
 ghost use Rattle.demi_link.specs.declared.phase.Cause.TheVariants.{Bye as bye, Clean as clean, LogFault as log_fault, NoMemory as no_memory, ReadFault as read_fault, Refused as refused, WriteFault as write_fault};
@@ -57,10 +57,11 @@ pub fn an_ended_link_asked_what_it_was_fed()
     what_a_decoder_handed_out_is_asked();
 }
 
-/// It owes nothing: each application half that it took was given back, and each token of its submissions was redeemed.
+/// It owes nothing: each application half that it took was given back, and each token of its submissions was
+/// redeemed, at each of the three ports.
 pub fn an_ended_link_owes_nothing()
     ensures halves { (ports : ℕ) (s : Sight) (d : DeskValue) (c : Cause) → Fits ports s d (Over c) → IsKnown c → s.out ≡ 0 }
-    ensures tokens { (ports : ℕ) (s : Sight) (d : DeskValue) (c : Cause) → Fits ports s d (Over c) → IsKnown c → s.due ≡ 0 }
+    ensures tokens { (ports : ℕ) (s : Sight) (d : DeskValue) (c : Cause) → Fits ports s d (Over c) → IsKnown c → s.due ≡ nothing_due }
 {}
 
 /// Why it is over is what it heard: the end of the input as its last pop; an end frame or a refusal in what it was fed; a

@@ -104,6 +104,20 @@ impl<D: Disk> Log<D> {
         let _ = self.stage.extend_from_slice(piece);
     }
 
+    /// What is staged for the next entry.
+    pub fn staged(&self) -> &[u8]
+        ensures { result.now ≡ self.now.staged }
+    {
+        &self.stage[LENGTH_BYTES..]
+    }
+
+    /// Forgets what is staged.
+    pub fn unstage(&mut self)
+        ensures { self.new ≡ record self.old { staged = [] } }
+    {
+        self.stage.truncate(LENGTH_BYTES);
+    }
+
     /// The payload of an entry, in the front of the room, and its length.
     pub fn get(&mut self, i: u64, room: &mut [u8]) -> Result<u32, Failed>
         requires lost { self.old.lost ≡ false }

@@ -8,7 +8,7 @@ use Rattle.demi_spec.specs.Record.{Record, IsRecord, payload, record_of}
 use Rattle.demi_spec.proofs.Payloads.{record_again}
 use Rattle.demi_logq.specs.Logged.{Logged}
 use Rattle.demi_port_core.specs.declared.place.Place.{Place}
-use Rattle.demi_store.specs.Cores.{Core, CorePut, IsDraft}
+use Rattle.demi_store.specs.Cores.{Core, CorePut, IsDraft, unstaged}
 use Rattle.demi_store.specs.Shelves.{Keeps, PutIs}
 use Rattle.demi_store.specs.declared.index.Index.{Index}
 use Rattle.demi_store.specs.declared.answer.StoreAnswer.{StoreAnswer}
@@ -20,6 +20,10 @@ pub some_draft : (draft : List ℕ) → IsDraft draft → record_of draft ≢ No
 some_draft draft (inl e) some = absurd (some (none_of draft e))
 some_draft draft (inr d) some = d
 
+pub no_draft : (draft : List ℕ) → IsDraft draft → record_of draft ≡ None → draft ≡ []
+no_draft draft (inl e) none = e
+no_draft draft (inr d) none = absurd (let both : Some d.0 ≡ None = sym (record_again d.0 d.1) ∙ sym (ap record_of d.2) ∙ none in cc)
+
 pub the_draft : (draft : List ℕ) → IsDraft draft → (r : Record) → record_of draft ≡ Some r → IsRecord r × (draft ≡ payload r)
 the_draft draft (inl e) r is = absurd (let n = none_of draft e in let both : Some r ≡ None = sym is ∙ n in cc)
 the_draft draft (inr d) r is =
@@ -27,14 +31,15 @@ the_draft draft (inr d) r is =
     let same : d.0 ≡ r = cc in
     (subst (λ (x : Record). IsRecord x) same d.1, d.2 ∙ ap payload same)
 
-pub draft_head : (draft : List ℕ) (r : Record) → IsRecord r → draft ≡ payload r → (8 ≤ length draft) × (7 + slice_index draft 6 ≤ length draft) × (length draft ≤ 65798)
+pub draft_head : (draft : List ℕ) (r : Record) → IsRecord r → draft ≡ payload r → (8 ≤ length draft) × (7 + slice_index draft 6 ≤ length draft)
 draft_head draft r ok text =
-    let k0 = ok.key.0 in let k1 = ok.key.1 in let v = ok.value in
+    let k0 = ok.key.0 in
     let l = length_of r in
-    subst (λ (d : List ℕ). (8 ≤ length d) × (7 + slice_index d 6 ≤ length d) × (length d ≤ 65798)) (sym text) (omega arith, omega arith, omega arith)
+    subst (λ (d : List ℕ). (8 ≤ length d) × (7 + slice_index d 6 ≤ length d)) (sym text) (omega arith, omega arith)
 
+-- a store, whatever is staged in its log
 abbrev pub core_of : {D : Type 0} → Logged D → List Record → ℕ → Option Record → Option Place → Core D
-core_of log records limit begun fault = record { log = log; records = records; limit = limit; begun = begun; fault = fault }
+core_of log records limit begun fault = record { log = unstaged log; records = records; limit = limit; begun = begun; fault = fault }
 
 pub begun_is : (link index : ℕ) (key draft : List ℕ) → draft ≡ to_be_bytes w16 link ++ to_be_bytes w32 index ++ length key ∷ key → draft ≡ payload (record { link = link; index = index; key = key; value = [] })
 begun_is link index key draft is = is ∙ sym (append-nil (to_be_bytes w16 link ++ to_be_bytes w32 index ++ length key ∷ key))

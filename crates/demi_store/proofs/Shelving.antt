@@ -122,41 +122,32 @@ value_read told records key room j from all is behind count read =
     told_of (Some b) r e read = take_all (length room) room (omega arith) ∙ read ∙ e
 
 module _ {D : Type 0} (bytes : D → Option (List ℕ)) where
-  -- nothing changed but how the index lies
-  pub kept_on : (log log' : Logged D) (index index' : Index) (limit : ℕ) (fault fault' : Option Place) (records : List Record) → Keeps bytes log index limit fault records
-      → log' ≡ log → ((key : List ℕ) → entry_of index' key ≡ entry_of index key) → fault' ≡ fault → Keeps bytes log' index' limit fault' records
-  kept_on log log' index index' limit fault fault' records k same entries faults = record {
+  -- nothing changed but what is staged and how the index lies
+  pub kept_on : (log log' : Logged D) (staged : List ℕ) (index index' : Index) (limit : ℕ) (fault fault' : Option Place) (records : List Record) → Keeps bytes log index limit fault records
+      → log' ≡ record log { staged = staged } → ((key : List ℕ) → entry_of index' key ≡ entry_of index key) → fault' ≡ fault → Keeps bytes log' index' limit fault' records
+  kept_on log log' staged index index' limit fault fault' records k same entries faults = record {
     holds = subst (λ (l : Logged D). Holds (bytes l.disk) l.ends (map payload records)) (sym same) k.holds;
     fits = k.fits;
     entries = λ key. entries key ∙ k.entries key;
     kept = ap (λ (l : Logged D). l.lost) same ∙ k.kept;
     whole = λ none. ap (λ (l : Logged D). l.torn) same ∙ k.whole (sym faults ∙ none);
-    empty = ap (λ (l : Logged D). l.staged) same ∙ k.empty;
     limit_fits = omega (arith, k.limit_fits, ap (λ (l : Logged D). l.limit) same);
   }
-
-  -- the staged bytes are the payload
-  staged_is : (log log1 : Logged D) (draft : List ℕ) (r : Record) → log.staged ≡ [] → log1 ≡ record log { staged = log.staged ++ draft } → draft ≡ payload r → log1.staged ≡ payload r
-  staged_is log log1 draft r empty is text = ap (λ (l : Logged D). l.staged) is ∙ ap (λ (l : List ℕ). l ++ draft) empty ∙ text
 
   key_is : (draft key : List ℕ) (r : Record) → draft ≡ payload r → key ≡ take (slice_index draft 6) (drop 7 draft) → key ≡ r.key
   key_is draft key r text is = is ∙ ap (λ (d : List ℕ). take (slice_index d 6) (drop 7 d)) text ∙ take-append_seam r.key r.value
 
   module _ (held faults : D → ℕ) (appends : D → List ℕ → Bool → D → Type 0) where
-    pub stored : (log log1 log2 : Logged D) (index index1 index2 : Index) (limit : ℕ) (fault fault2 : Option Place) (records : List Record) (r : Record) (draft key : List ℕ) (number : ℕ)
-        → Keeps bytes log index limit fault records → IsRecord r → draft ≡ payload r → fault ≡ None → log1 ≡ record log { staged = log.staged ++ draft } → ((k : List ℕ) → entry_of index1 k ≡ entry_of index k)
-        → key ≡ take (slice_index draft 6) (drop 7 draft) → ((k : List ℕ) → entry_of index2 k ≡ cond (bytes_eq key k) (Some number) (entry_of index1 k)) → Appended bytes held appends log1 log2 number
-        → Keeps bytes log2 index2 limit fault2 (records ++ r ∷ []) × Grows bytes held appends log.disk log2.disk r
-    stored log log1 log2 index index1 index2 limit fault fault2 records r draft key number k fits text none is entries1 key_of entries2 a =
-        let staged : log1.staged ≡ payload r = staged_is log log1 draft r k.empty is text in
-        let disk : log1.disk ≡ log.disk = ap (λ (l : Logged D). l.disk) is in
-        let ends : log1.ends ≡ log.ends = ap (λ (l : Logged D). l.ends) is in
-        let keys : key ≡ r.key = key_is draft key r text key_of in
-        let count : number ≡ length records = a.index_is ∙ ap length ends ∙ counted (bytes log.disk) log.ends records k.holds in (
+    pub stored : (log log' : Logged D) (index index1 index2 : Index) (limit : ℕ) (fault fault' : Option Place) (records : List Record) (r : Record) (key : List ℕ) (number : ℕ)
+        → Keeps bytes log index limit fault records → IsRecord r → log.staged ≡ payload r → fault ≡ None → ((k : List ℕ) → entry_of index1 k ≡ entry_of index k)
+        → key ≡ take (slice_index log.staged 6) (drop 7 log.staged) → ((k : List ℕ) → entry_of index2 k ≡ cond (bytes_eq key k) (Some number) (entry_of index1 k)) → Appended bytes held appends log log' number
+        → Keeps bytes log' index2 limit fault' (records ++ r ∷ []) × Grows bytes held appends log.disk log'.disk r
+    stored log log' index index1 index2 limit fault fault' records r key number k fits text none entries1 key_of entries2 a =
+        let keys : key ≡ r.key = key_is log.staged key r text key_of in
+        let count : number ≡ length records = a.index_is ∙ counted (bytes log.disk) log.ends records k.holds in (
           record {
-            holds = subst (λ (l : List (List ℕ)). Holds (bytes log2.disk) log2.ends l) (map_more records r)
-                (subst (λ (p : List ℕ). Holds (bytes log2.disk) log2.ends (map payload records ++ p ∷ [])) staged
-                (a.holds (map payload records) (subst (λ (l : Logged D). Holds (bytes l.disk) l.ends (map payload records)) (sym is) k.holds)));
+            holds = subst (λ (l : List (List ℕ)). Holds (bytes log'.disk) log'.ends l) (map_more records r)
+                (subst (λ (p : List ℕ). Holds (bytes log'.disk) log'.ends (map payload records ++ p ∷ [])) text (a.holds (map payload records) k.holds));
             fits = fits_more records r k.fits fits;
             entries = λ other.
                 entries2 other
@@ -164,44 +155,39 @@ module _ {D : Type 0} (bytes : D → Option (List ℕ)) where
                 ∙ ap (λ n. cond (bytes_eq r.key other) (Some n) (entry_of index1 other)) count
                 ∙ ap (λ o. cond (bytes_eq r.key other) (Some (length records)) o) (entries1 other ∙ k.entries other)
                 ∙ sym (last_more records r other);
-            kept = ap (λ (l : Logged D). l.lost) a.now ∙ ap (λ (l : Logged D). l.lost) is ∙ k.kept;
-            whole = λ _. ap (λ (l : Logged D). l.torn) a.now ∙ ap (λ (l : Logged D). l.torn) is ∙ k.whole none;
-            empty = ap (λ (l : Logged D). l.staged) a.now;
-            limit_fits = omega (arith, k.limit_fits, ap (λ (l : Logged D). l.limit) a.now, ap (λ (l : Logged D). l.limit) is);
+            kept = ap (λ (l : Logged D). l.lost) a.now ∙ k.kept;
+            whole = λ _. ap (λ (l : Logged D). l.torn) a.now ∙ k.whole none;
+            limit_fits = omega (arith, k.limit_fits, ap (λ (l : Logged D). l.limit) a.now);
           },
           record {
-            bytes_are = a.bytes_are ∙ ap (λ (d : D). append_known (bytes d) (entry log1.staged)) disk ∙ ap (λ (l : List ℕ). append_known (bytes log.disk) (entry l)) staged;
-            held_is = omega (arith, a.held_is, ap held disk, ap length staged, length-entry (payload r));
-            call = subst (λ (d : D). appends d (entry (payload r)) true log2.disk) disk (subst (λ (l : List ℕ). appends log1.disk (entry l) true log2.disk) staged a.call);
+            bytes_are = a.bytes_are ∙ ap (λ (l : List ℕ). append_known (bytes log.disk) (entry l)) text;
+            held_is = omega (arith, a.held_is, ap length text, length-entry (payload r));
+            call = subst (λ (l : List ℕ). appends log.disk (entry l) true log'.disk) text a.call;
           },
         )
 
-    pub torn_commit : (log1 log2 : Logged D) (e : LogRefusal) → Committed bytes held faults appends log1 log2 (Err e) → log1.torn ≡ false → log1.lost ≡ false → length log1.ends < log1.limit → Torn bytes held faults appends log1 log2
-    torn_commit log1 log2 refusal.Failed d sound kept less = d
-    torn_commit log1 log2 refusal.Full d sound kept less = absurd (let l = d.1 in omega arith)
-    torn_commit log1 log2 refusal.Broken d sound kept less = elim d.0 [ inl t ↦ absurd (cc) | inr t ↦ absurd (cc) ]
-    torn_commit log1 log2 refusal.NoMemory d sound kept less = absurd d
-    torn_commit log1 log2 (refusal.BadLog at) d sound kept less = absurd d
+    pub torn_commit : (log log' : Logged D) (e : LogRefusal) → Committed bytes held faults appends log log' (Err e) → log.torn ≡ false → log.lost ≡ false → length log.ends < log.limit → Torn bytes held faults appends log log'
+    torn_commit log log' refusal.Failed d sound kept less = d
+    torn_commit log log' refusal.Full d sound kept less = absurd (let l = d.1 in omega arith)
+    torn_commit log log' refusal.Broken d sound kept less = elim d.0 [ inl t ↦ absurd (cc) | inr t ↦ absurd (cc) ]
+    torn_commit log log' refusal.NoMemory d sound kept less = absurd d
+    torn_commit log log' (refusal.BadLog at) d sound kept less = absurd d
 
-    pub failed : (log log1 log2 : Logged D) (index index1 : Index) (limit : ℕ) (fault fault2 : Option Place) (place : Place) (records : List Record) (r : Record) (draft : List ℕ)
-        → Keeps bytes log index limit fault records → draft ≡ payload r → fault2 ≡ Some place → log1 ≡ record log { staged = log.staged ++ draft } → ((k : List ℕ) → entry_of index1 k ≡ entry_of index k)
-        → Torn bytes held faults appends log1 log2 → Keeps bytes log2 index1 limit fault2 records × Fails bytes held faults appends log.disk log2.disk r
-    failed log log1 log2 index index1 limit fault fault2 place records r draft k text broken is entries1 t =
-        let staged : log1.staged ≡ payload r = staged_is log log1 draft r k.empty is text in
-        let disk : log1.disk ≡ log.disk = ap (λ (l : Logged D). l.disk) is in (
+    pub failed : (log log' : Logged D) (index index1 : Index) (limit : ℕ) (fault fault' : Option Place) (place : Place) (records : List Record) (r : Record)
+        → Keeps bytes log index limit fault records → log.staged ≡ payload r → fault' ≡ Some place → ((k : List ℕ) → entry_of index1 k ≡ entry_of index k)
+        → Torn bytes held faults appends log log' → Keeps bytes log' index1 limit fault' records × Fails bytes held faults appends log.disk log'.disk r
+    failed log log' index index1 limit fault fault' place records r k text broken entries1 t = (
           record {
-            holds = t.holds (map payload records) (subst (λ (l : Logged D). Holds (bytes l.disk) l.ends (map payload records)) (sym is) k.holds);
+            holds = t.holds (map payload records) k.holds;
             fits = k.fits;
             entries = λ other. entries1 other ∙ k.entries other;
-            kept = ap (λ (l : Logged D). l.lost) t.now ∙ ap (λ (l : Logged D). l.lost) is ∙ k.kept;
+            kept = ap (λ (l : Logged D). l.lost) t.now ∙ k.kept;
             whole = λ none. absurd (let e : Some place ≡ None = sym broken ∙ none in cc);
-            empty = ap (λ (l : Logged D). l.staged) t.now;
-            limit_fits = omega (arith, k.limit_fits, ap (λ (l : Logged D). l.limit) t.now, ap (λ (l : Logged D). l.limit) is);
+            limit_fits = omega (arith, k.limit_fits, ap (λ (l : Logged D). l.limit) t.now);
           },
           record {
-            grown = subst (λ (d : D). GrowsByFront (bytes d) (bytes log2.disk) (held d) (held log2.disk) (entry (payload r))) disk
-                (subst (λ (l : List ℕ). GrowsByFront (bytes log1.disk) (bytes log2.disk) (held log1.disk) (held log2.disk) (entry l)) staged t.grown);
-            call = subst (λ (d : D). appends d (entry (payload r)) false log2.disk) disk (subst (λ (l : List ℕ). appends log1.disk (entry l) false log2.disk) staged t.call);
-            cause = subst (λ (d : D). Rose (faults d) (faults log2.disk)) disk t.cause;
+            grown = subst (λ (l : List ℕ). GrowsByFront (bytes log.disk) (bytes log'.disk) (held log.disk) (held log'.disk) (entry l)) text t.grown;
+            call = subst (λ (l : List ℕ). appends log.disk (entry l) false log'.disk) text t.call;
+            cause = t.cause;
           },
         )

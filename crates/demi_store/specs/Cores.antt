@@ -20,11 +20,14 @@ pub record Core (D : Type 0) : Type 0 where
 abbrev pub IsDraft : List ℕ → Type 0
 IsDraft draft = (draft ≡ []) ⊎ ((r : Record) × IsRecord r × (draft ≡ payload r))
 
--- the fields of a store
-pub record IsCore {D : Type 0} (bytes : D → Option (List ℕ)) (log : Logged D) (index : Index) (limit : ℕ) (fault : Option Place) (records : List Record) (draft : List ℕ) (room : ℕ) : Type 0 where
+-- the fields of a store: what is staged is a draft
+pub record IsCore {D : Type 0} (bytes : D → Option (List ℕ)) (log : Logged D) (index : Index) (limit : ℕ) (fault : Option Place) (records : List Record) : Type 0 where
   pub keeps : Keeps bytes log index limit fault records
-  pub draft_is : IsDraft draft
-  pub room_is : 65798 ≤ room
+  pub draft_is : IsDraft log.staged
+
+-- a log but for what is staged
+abbrev pub unstaged : {D : Type 0} → Logged D → Logged D
+unstaged log = record log { staged = [] }
 
 -- the record of a draft, where it has one
 abbrev pub drafted : Option Record → List Record

@@ -1,4 +1,4 @@
-ghost use Rattle.std.specs.Prelude.{◌≡◌, ◌≢◌, ◌+◌, ◌<◌, ◌≤◌, ◌++◌, List, [], ◌∷◌, ℕ, Some, None, length, false, IfOk, IfErr, IfSome, Ok, Err, MatchResult, map, vec_capacity};
+ghost use Rattle.std.specs.Prelude.{◌≡◌, ◌≢◌, ◌+◌, ◌<◌, ◌≤◌, ◌++◌, List, [], ◌∷◌, ℕ, Some, None, length, false, IfOk, IfErr, IfSome, Ok, Err, MatchResult, map};
 ghost use Rattle.std.specs.Int.{w16, w32, to_be_bytes};
 ghost use Rattle.demi_core.specs.Outside.{Rose};
 ghost use Rattle.demi_spec.specs.Record.{Record, payload, record_of, records as records_of_text};
@@ -18,7 +18,7 @@ use demi_core::Disk;
 use demi_device::Mark;
 use demi_frame::Key;
 use demi_heap::AppBuf;
-use demi_logq::{Log, LogRefusal, MAX_PAYLOAD_BYTES};
+use demi_logq::{Log, LogRefusal};
 use demi_port_core::Place;
 use std::alloc::Global;
 use std::marker::Model;
@@ -27,56 +27,44 @@ use std::marker::Model;
 /// records, how many there may be, the record that is begun, and the place at which the disk failed.
 pub struct StoreCore<D: Disk> {
     alloc: Global,
+    // The payload of the record that is begun is staged in its log.
     shelf: Shelf<D>,
-    draft: Vec<u8>,
     records: Mark<Records>,
 }
 
 impl<D: Disk> Model for StoreCore<D> {
-    ghost use Rattle.std.specs.Prelude.{vec_capacity};
     ghost use Rattle.demi_spec.specs.Record.{record_of};
-    ghost use Rattle.demi_store.specs.Cores.{Core, IsCore};
+    ghost use Rattle.demi_store.specs.Cores.{Core, IsCore, unstaged};
 
     ghost Value = { Core D };
 
-    ghost view = { λ s. record { log = s.shelf.log; records = s.records.value; limit = s.shelf.limit; begun = record_of s.draft.items; fault = s.shelf.fault } };
+    ghost view = { λ s. record { log = unstaged s.shelf.log; records = s.records.value; limit = s.shelf.limit; begun = record_of s.shelf.log.staged; fault = s.shelf.fault } };
 
-    ghost invariant = { λ s. IsCore D.bytes s.shelf.log s.shelf.index s.shelf.limit s.shelf.fault s.records.value s.draft.items (vec_capacity s.draft) };
+    ghost invariant = { λ s. IsCore D.bytes s.shelf.log s.shelf.index s.shelf.limit s.shelf.fault s.records.value };
 }
 
-// Writes the payload of a record without a value.
-fn write_head(draft: &mut Vec<u8>, link: u16, index: u32, key: &[u8])
-    requires room { 65798 ≤ vec_capacity draft.old }
+// Stages the payload of a record without a value.
+fn stage_head<D: Disk>(log: &mut Log<D>, link: u16, index: u32, key: &[u8])
+    requires none { log.old.staged ≡ [] }
     requires key { length key.now ≤ 255 }
-    ensures text { draft.new.items ≡ to_be_bytes w16 link ++ to_be_bytes w32 index ++ length key.now ∷ key.now }
-    ensures room { vec_capacity draft.old ≤ vec_capacity draft.new }
+    ensures { log.new ≡ record log.old { staged = to_be_bytes w16 link ++ to_be_bytes w32 index ++ length key.now ∷ key.now } }
 {
-    draft.clear();
-    let _ = draft.extend_from_slice(&link.to_be_bytes());
-    let _ = draft.extend_from_slice(&index.to_be_bytes());
-    let _ = draft.push(key.len() as u8);
-    let _ = draft.extend_from_slice(key);
+    log.stage(&link.to_be_bytes());
+    log.stage(&index.to_be_bytes());
+    log.stage(&[key.len() as u8]);
+    log.stage(key);
 }
 
-// Adds bytes that fit.
-fn write_more(draft: &mut Vec<u8>, bytes: &[u8])
-    requires { length draft.old.items + length bytes.now ≤ vec_capacity draft.old }
-    ensures text { draft.new.items ≡ draft.old.items ++ bytes.now }
-    ensures room { vec_capacity draft.old ≤ vec_capacity draft.new }
+// The record whose payload is staged.
+fn staged_record<D: Disk>(log: &Log<D>) -> Mark<Records>
+    ensures { result.value ≡ drafted (record_of log.now.staged) }
 {
-    let _ = draft.extend_from_slice(bytes);
-}
-
-// The record whose payload is a draft.
-fn draft_record(draft: &Vec<u8>) -> Mark<Records>
-    ensures { result.value ≡ drafted (record_of draft.now.items) }
-{
-    Mark::from(draft, &())
+    Mark::from(log, &())
 }
 
 impl<D: Disk> StoreCore<D> {
     /// A store over a log of which no commit and no cut has failed and in which nothing is staged: it reads the entries as records, of
-    /// which there may be `limit`, at most as many as the log allows. All memory that a put needs but that of its key is taken here.
+    /// which there may be `limit`, at most as many as the log allows. A put takes no memory but that of its key.
     ///
     /// `BadLog` exactly where an entry is no record, with the place of the first such entry's first byte, where the disk tells its
     /// bytes; where it does not, that is the place of an entry. `Failed` only where the disk's count of faults rose; `NoMemory`. The
@@ -105,9 +93,6 @@ impl<D: Disk> StoreCore<D> {
         ensures later { MatchResult result (λ s. D.faults log.disk ≤ D.faults s.log.disk) (λ e. D.faults log.disk ≤ D.faults e.0.disk) }
     {
         let mut log = log;
-        let Ok(draft) = Vec::with_capacity(alloc, MAX_PAYLOAD_BYTES) else {
-            return Err((log, LogRefusal::NoMemory));
-        };
         let mut index = Index::new(alloc);
         let mut records = no_records();
         match read_all(alloc, &mut log, &mut index, &mut records) {
@@ -119,7 +104,6 @@ impl<D: Disk> StoreCore<D> {
                     limit: limit as u64,
                     fault: None,
                 },
-                draft,
                 records,
             }),
             Err(e) => Err((log, e)),
@@ -132,7 +116,7 @@ impl<D: Disk> StoreCore<D> {
         requires key { 0 < length key.now.items }
         ensures { self.new ≡ record self.old { begun = Some (record { link = link; index = index; key = key.now.items; value = [] }) } }
     {
-        write_head(&mut self.draft, link, index, key.as_slice());
+        stage_head(&mut self.shelf.log, link, index, key.as_slice());
     }
 
     /// Adds bytes to the value of the record that is begun, of which there are at most 65,536.
@@ -142,7 +126,7 @@ impl<D: Disk> StoreCore<D> {
         ensures more { (r : Record) → self.old.begun ≡ Some r → self.new ≡ record self.old { begun = Some (record r { value = r.value ++ bytes.now }) } }
         ensures still { self.new.begun ≢ None }
     {
-        write_more(&mut self.draft, bytes);
+        self.shelf.log.stage(bytes);
     }
 
     /// Appends the record that is begun, by one append of the disk, unless there are as many as there may be. Memory is taken before,
@@ -156,20 +140,13 @@ impl<D: Disk> StoreCore<D> {
         ensures none { self.new.begun ≡ None }
         ensures later { D.faults self.old.log.disk ≤ D.faults self.new.log.disk }
     {
-        match self
-            .shelf
-            .put(self.alloc, place, &self.draft, &self.records)
-        {
-            StoreAnswer::Stored(version) => {
-                self.records = both(&self.records, &draft_record(&self.draft));
-                self.draft.clear();
-                StoreAnswer::Stored(version)
-            }
-            answer => {
-                self.draft.clear();
-                answer
-            }
+        let record = staged_record(&self.shelf.log);
+        let answer = self.shelf.put(self.alloc, place, &self.records);
+        self.shelf.log.unstage();
+        if let StoreAnswer::Stored(_) = answer {
+            self.records = both(&self.records, &record);
         }
+        answer
     }
 
     /// The value that was put last under the key, in the front of the room, which has 65,536 bytes, and its length: it is read from the
@@ -213,15 +190,15 @@ impl<D: Disk> StoreCore<D> {
         let StoreCore {
             alloc: _,
             shelf,
-            draft: _,
             records: _,
         } = self;
         let Shelf {
-            log,
+            mut log,
             index: _,
             limit: _,
             fault: _,
         } = shelf;
+        log.unstage();
         log
     }
 }
