@@ -1,7 +1,7 @@
 mod Lists
 mod Folds
 mod Answering
-mod Entries
+pub mod Entries
 mod Steady
 mod Places
 mod Comes

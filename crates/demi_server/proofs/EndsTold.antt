@@ -2,6 +2,7 @@
 use Rattle.std.proofs.Common.{◌≡◌, ℕ, ◌+◌, ◌<◌, ◌⊎◌, Bool, true, false, List, [], ◌∷◌, ◌++◌, Some, None, Option, refl, arith, ◌∙◌, ap, sym, subst, cond, inl, inr}
 use Rattle.std.specs.Prelude.{slice_get, take, ltb, length, ◌==◌}
 use Rattle.demi_device.specs.Serving.{first_stop, trail}
+use Rattle.demi_port_core.specs.Trails.{told_at as told_there}
 use Rattle.demi_streamq.specs.Receiving.{RxAdmits, RxAnswer, RxRead, at, bytes_before, is_stop, over, told, told_at}
 use Rattle.demi_streamq.specs.RxKept.{HasEnd, IsEnd}
 use Rattle.demi_streamq.specs.declared.rx_op.RxOp.{RxOp}
@@ -13,14 +14,11 @@ use Rattle.demi_streamq.specs.declared.rx_told.RxTold.TheVariants.{AtEnd}
 
 over_end : (p : ℕ) (f : List (ℕ × RxOut)) → over p (trail told f) ≡ Some End → HasEnd f
 over_end p [] e = absurd (cc)
-over_end p (o ∷ os) e = go o.1 refl
+over_end p (o ∷ os) e = go (λ h. over_end p os h) o.1 refl
   where
-    rest : over p (trail told os) ≡ Some End → HasEnd os
-    rest h = over_end p os h
-
-    go : (x : RxOut) → o.1 ≡ x → IsEnd o.1 ⊎ HasEnd os
-    go End s = inl (subst IsEnd (sym s) tt)
-    go (Piece v) s = inr (rest (skip (ltb o.0 p) refl))
+    go : (over p (trail told os) ≡ Some End → HasEnd os) → (x : RxOut) → o.1 ≡ x → IsEnd o.1 ⊎ HasEnd os
+    go rest End s = inl (subst IsEnd (sym s) tt)
+    go rest (Piece v) s = inr (rest (skip (ltb o.0 p) refl))
       where
         is : over p (trail told ((o.0, Piece v) ∷ os)) ≡ Some End
         is = ap (λ (y : RxOut). over p (trail told ((o.0, y) ∷ os))) (sym s) ∙ e
@@ -28,7 +26,7 @@ over_end p (o ∷ os) e = go o.1 refl
         skip : (c : Bool) → ltb o.0 p ≡ c → over p (trail told os) ≡ Some End
         skip true t = sym (ap (λ (b : Bool). cond b (over p (trail told os)) (over p (trail told os))) t) ∙ is
         skip false t = sym (ap (λ (b : Bool). cond b (over p (trail told os)) (over p (trail told os))) t) ∙ is
-    go (Fault k) s = inr (rest (skip (ltb o.0 p) refl))
+    go rest (Fault k) s = inr (rest (skip (ltb o.0 p) refl))
       where
         is : over p (trail told ((o.0, Fault k) ∷ os)) ≡ Some End
         is = ap (λ (y : RxOut). over p (trail told ((o.0, y) ∷ os))) (sym s) ∙ e
@@ -36,7 +34,7 @@ over_end p (o ∷ os) e = go o.1 refl
         skip : (c : Bool) → ltb o.0 p ≡ c → over p (trail told os) ≡ Some End
         skip true t = absurd (let broken : Some (Broken (at o.0)) ≡ Some End = sym (ap (λ (b : Bool). cond b (Some (Broken (at o.0))) (over p (trail told os))) t) ∙ is in cc)
         skip false t = sym (ap (λ (b : Bool). cond b (Some (Broken (at o.0))) (over p (trail told os))) t) ∙ is
-    go NoSlot s = inr (rest (skip (ltb o.0 p) refl))
+    go rest NoSlot s = inr (rest (skip (ltb o.0 p) refl))
       where
         is : over p (trail told ((o.0, NoSlot) ∷ os)) ≡ Some End
         is = ap (λ (y : RxOut). over p (trail told ((o.0, y) ∷ os))) (sym s) ∙ e
@@ -44,39 +42,32 @@ over_end p (o ∷ os) e = go o.1 refl
         skip : (c : Bool) → ltb o.0 p ≡ c → over p (trail told os) ≡ Some End
         skip true t = sym (ap (λ (b : Bool). cond b (over p (trail told os)) (over p (trail told os))) t) ∙ is
         skip false t = sym (ap (λ (b : Bool). cond b (over p (trail told os)) (over p (trail told os))) t) ∙ is
-    go (Broken q) s = inr (rest (ap (λ (y : RxOut). over p (trail told ((o.0, y) ∷ os))) (sym s) ∙ e))
-    go (Stopped q) s = inr (rest (ap (λ (y : RxOut). over p (trail told ((o.0, y) ∷ os))) (sym s) ∙ e))
-    go Halted s = inr (rest (ap (λ (y : RxOut). over p (trail told ((o.0, y) ∷ os))) (sym s) ∙ e))
+    go rest (Broken q) s = inr (rest (ap (λ (y : RxOut). over p (trail told ((o.0, y) ∷ os))) (sym s) ∙ e))
+    go rest (Stopped q) s = inr (rest (ap (λ (y : RxOut). over p (trail told ((o.0, y) ∷ os))) (sym s) ∙ e))
+    go rest Halted s = inr (rest (ap (λ (y : RxOut). over p (trail told ((o.0, y) ∷ os))) (sym s) ∙ e))
 
 told_end : (p : ℕ) (f : List (ℕ × RxOut)) → told_at p (trail told f) ≡ Some AtEnd → HasEnd f
 told_end p [] e = absurd (cc)
-told_end p (o ∷ os) e = go o.1 refl
+told_end p (o ∷ os) e = go (λ h. told_end p os h) o.1 refl
   where
-    rest : told_at p (trail told os) ≡ Some AtEnd → HasEnd os
-    rest h = told_end p os h
-
     other : (x : RxOut) (t : RxTold) → o.1 ≡ x → told x ≡ Some t → (t ≡ AtEnd → ⊥) → told_at p (trail told os) ≡ Some AtEnd
-    other x t s is no = skip (o.0 == p) refl
+    other x t s is differs = skip (o.0 == p) refl
       where
         there : told_at p ((o.0, t) ∷ trail told os) ≡ Some AtEnd
-        there = ap (λ (k : Option RxTold). told_at p (trail_with k)) (sym is) ∙ ap (λ (y : RxOut). told_at p (trail told ((o.0, y) ∷ os))) (sym s) ∙ e
-          where
-            trail_with : Option RxTold → List (ℕ × RxTold)
-            trail_with None = trail told os
-            trail_with (Some u) = (o.0, u) ∷ trail told os
+        there = ap (λ (k : Option RxTold). told_at p (told_there o.0 k ++ trail told os)) (sym is) ∙ ap (λ (y : RxOut). told_at p (trail told ((o.0, y) ∷ os))) (sym s) ∙ e
 
         skip : (c : Bool) → (o.0 == p) ≡ c → told_at p (trail told os) ≡ Some AtEnd
-        skip true c = absurd (no (let same : Some t ≡ Some AtEnd = sym (ap (λ (b : Bool). cond b (Some t) (told_at p (trail told os))) c) ∙ there in cc))
+        skip true c = absurd (differs (let same : Some t ≡ Some AtEnd = sym (ap (λ (b : Bool). cond b (Some t) (told_at p (trail told os))) c) ∙ there in cc))
         skip false c = sym (ap (λ (b : Bool). cond b (Some t) (told_at p (trail told os))) c) ∙ there
 
-    go : (x : RxOut) → o.1 ≡ x → IsEnd o.1 ⊎ HasEnd os
-    go End s = inl (subst IsEnd (sym s) tt)
-    go (Piece v) s = inr (rest (other (Piece v) _ s refl (λ t. cc)))
-    go (Fault k) s = inr (rest (other (Fault k) _ s refl (λ t. cc)))
-    go NoSlot s = inr (rest (other NoSlot _ s refl (λ t. cc)))
-    go (Broken q) s = inr (rest (ap (λ (y : RxOut). told_at p (trail told ((o.0, y) ∷ os))) (sym s) ∙ e))
-    go (Stopped q) s = inr (rest (ap (λ (y : RxOut). told_at p (trail told ((o.0, y) ∷ os))) (sym s) ∙ e))
-    go Halted s = inr (rest (ap (λ (y : RxOut). told_at p (trail told ((o.0, y) ∷ os))) (sym s) ∙ e))
+    go : (told_at p (trail told os) ≡ Some AtEnd → HasEnd os) → (x : RxOut) → o.1 ≡ x → IsEnd o.1 ⊎ HasEnd os
+    go rest End s = inl (subst IsEnd (sym s) tt)
+    go rest (Piece v) s = inr (rest (other (Piece v) _ s refl (λ t. cc)))
+    go rest (Fault k) s = inr (rest (other (Fault k) _ s refl (λ t. cc)))
+    go rest NoSlot s = inr (rest (other NoSlot _ s refl (λ t. cc)))
+    go rest (Broken q) s = inr (rest (ap (λ (y : RxOut). told_at p (trail told ((o.0, y) ∷ os))) (sym s) ∙ e))
+    go rest (Stopped q) s = inr (rest (ap (λ (y : RxOut). told_at p (trail told ((o.0, y) ∷ os))) (sym s) ∙ e))
+    go rest Halted s = inr (rest (ap (λ (y : RxOut). told_at p (trail told ((o.0, y) ∷ os))) (sym s) ∙ e))
 
 -- an end that is admitted was told
 pub end_told : (h : List RxOp) (f : List (ℕ × RxOut)) (p : ℕ) (o : RxOut) → IsEnd o → RxAdmits h (trail told f) p o → HasEnd f

@@ -42,7 +42,7 @@ each_among (x ∷ xs) ys f = (f x (inl refl), each_among xs ys (λ y a. f y (inr
 
 -- an entry is an operation of its pass
 pub in_pass : {D : Type 0} (history : List (ℕ × D)) (i : ℕ) (e : ℕ × D) → slice_get history i ≡ Some e → Among (i, e.1) (of_pass e.0 0 history)
-in_pass {D} history i e at = all_of_pass (λ (y : ℕ × D). Among y (of_pass e.0 0 history)) e.0 0 history i e (each_among (of_pass e.0 0 history) (of_pass e.0 0 history) (λ x a. a)) at refl
+in_pass {D} history i e at = let zero_more : 0 + i ≡ i = omega arith in subst (λ (k : ℕ). Among (k, e.1) (of_pass e.0 0 history)) zero_more (all_of_pass (λ (y : ℕ × D). Among y (of_pass e.0 0 history)) e.0 0 history i e (each_among (of_pass e.0 0 history) (of_pass e.0 0 history) (λ x a. a)) at refl)
 
 pub each_one : {X : Type 0} (P : X → Type 0) (xs : List X) (x : X) → Each P xs → Among x xs → P x
 each_one P [] x h a = absurd a
@@ -67,7 +67,7 @@ in_front x l (y ∷ xs) (inr a) = elim (in_front x l xs a) [ inl b ↦ inl (inr 
 
 pub placed_of : {X : Type 0} (q : ℕ) (x : X) (xs : List (ℕ × X)) → Among (q, x) xs → Among q (places xs)
 placed_of q x [] a = a
-placed_of q x (y ∷ xs) (inl e) = inl (ap (λ (z : ℕ × X). z.0) e)
+placed_of {X} q x (y ∷ xs) (inl e) = inl (ap (λ (z : ℕ × X). z.0) e)
 placed_of q x (y ∷ xs) (inr a) = inr (placed_of q x xs a)
 
 module _ {D T B : Type 0} (id : PortId B) (seat : DeviceValue D T B) (passes : List (PassValue D T B)) (end : EndValue D T B) (ends : IsEndOf id seat passes end)

@@ -16,6 +16,7 @@ use Rattle.demi_streamq.specs.Receiving.{RxAdmits}
 use Rattle.demi_streamq.specs.RxGoing.{RxGoes, RxValue}
 use Rattle.demi_streamq.specs.RxKept.{HasEnd, IsEnd, NoneLeft, all_bytes, bytes_of}
 use Rattle.demi_streamq.specs.Sending as tx
+use Rattle.demi_streamq.specs.Sending.{array_bytes}
 use Rattle.demi_streamq.specs.TxGoing.{TxGoes, TxValue}
 use Rattle.demi_streamq.specs.TxKept.{all_written}
 use Rattle.demi_streamq.specs.declared.rx_op.RxOp.{RxOp}
@@ -53,7 +54,7 @@ left_read_out (Some (b ∷ bytes)) n = absurd (cc)
 
 no_texts : (xs : List TxOp) → texts_of (xs ++ tx_op.Stop ∷ []) ≡ texts_of xs
 no_texts [] = refl
-no_texts (tx_op.Push sga ∷ xs) = ap (λ l. _ ∷ l) (no_texts xs)
+no_texts (tx_op.Push sga ∷ xs) = ap (λ (l : List (List ℕ)). array_bytes sga ∷ l) (no_texts xs)
 no_texts (tx_op.Close ∷ xs) = no_texts xs
 no_texts (tx_op.Stop ∷ xs) = no_texts xs
 
@@ -134,13 +135,13 @@ module _ {I O : Type 0} (taken : I → ℕ) (left : I → Option (List ℕ)) (re
     popped_there : Popped rx_new.served (trail rx.told rx_new.finished) d.talk.outs
     popped_there = subst (λ (h : List RxOp). Popped h (trail rx.told rx_new.finished) d.talk.outs) rx_heard (subst (λ (t : List (ℕ × RxTold)). Popped p.rx_end.heard t d.talk.outs) rx_trail popped)
 
-    read : List ℕ
+    abbrev pub read : List ℕ
     read = pieces_in (trail rx.told rx_new.finished)
 
     same_read : all_bytes d.talk.outs ≡ read
     same_read = read_is popped_there
 
-    ended : Bool
+    abbrev pub ended : Bool
     ended = is_read_out (left rx_new.source)
 
     no_more : {X : Type 0} (old new added : List X) → old ≡ [] → new ≡ old ++ added → new ≡ added
@@ -172,10 +173,10 @@ module _ {I O : Type 0} (taken : I → ℕ) (left : I → Option (List ℕ)) (re
         let back : StartsWith d.talk.kept.drawn (asked (all_bytes d.talk.outs) false) = subst (λ (l : List Asked). StartsWith l (asked (all_bytes d.talk.outs) false)) (whole done).0 on in
         sym (same_length (asked (all_bytes d.talk.outs) false) d.talk.kept.drawn front back)
 
-    pub run : LinkRun
+    abbrev pub run : LinkRun
     run = record { read = read; written = all_written tx_new.served tx_new.finished; ended = ended }
 
-    pub talk : Talk
+    abbrev pub talk : Talk
     talk = record { asks = asked read ended; replies = d.talk.kept.replies }
 
     asked_same : asked read ended ≡ asked (all_bytes d.talk.outs) ended
@@ -213,3 +214,6 @@ module _ {I O : Type 0} (taken : I → ℕ) (left : I → Option (List ℕ)) (re
         subst (λ (h : List TxOp). WroteAll h (trail tx.told tx_new.finished)) tx_heard (subst (λ (t : List (ℕ × ℕ)). WroteAll p.tx_end.heard t) tx_trail (all done)),
       );
     }
+
+    pub closed_link : (l : LinkRun) × (t : Talk) × LinkMoved taken left read_faults written write_faults (rx_old.source, tx_old.sink) (rx_new.source, tx_new.sink) l × LinkResult c d l (ports_of rx_new tx_new) t
+    closed_link = (run, talk, moved, result)

@@ -50,10 +50,10 @@ draw_at P (y ∷ draws) (suc i) x h at = draw_at P draws i x h.1 at
 
 -- the worker once it had stopped the store
 module _ (s : Sight) (d : DeskValue) (one : ServesOne s d) (pass : StorePass) (added : Added store_stop s.store pass) where
-  pub last : Worker
+  abbrev pub last : Worker
   last = record { submitted = pass.submitted; known = known_by pass; draws = s.draws }
 
-  stopped : Worker
+  abbrev stopped : Worker
   stopped = after_handing (after_stop (worker_of s) added.place added.token) (known_by pass)
 
   last_is : stopped ≡ last
@@ -87,10 +87,10 @@ module _ (ports : ℕ) (s : Sight) (d : DeskValue) (c : Cause) (w : WasServed po
         → ((p : ℕ) (x : StoreEntry) → get_elem? z.history p ≡ some x → x.0 < length passes)
         → z.heard ≡ says z.history → Each (λ p. Behind (known_at z) (known_by p)) passes
         → PortClosed (known_at z) z.history workers) where
-  k : Link
+  abbrev pub k : Link
   k = d.talk.kept
 
-  me : Worker
+  abbrev pub me : Worker
   me = last s d one pass added
 
   keeps : WorkerKeeps me

@@ -1,6 +1,4 @@
 use Rattle.demi_port.specs.Seen.{known_at}
-use Rattle.demi_device.specs.Serving.{trail}
-use Rattle.demi_streamq.specs.Receiving as rx
 use Rattle.demi_streamq.specs.RxKept.{all_bytes}
 use Rattle.demi_server.proofs.LinkCloses as link
 use Rattle.demi_server.proofs.closing.a_served_link_closes.Goals as goal
@@ -17,19 +15,18 @@ returns g c = λ ports s d x rx_old rx_new tx_old tx_new w p.
     let rx_knew = link.rx_knew taken left rf reads written wf ports s d x w rx_old rx_new tx_old tx_new p in
     let own_push = link.own_push taken left rf reads written wf ports s d x w rx_old rx_new tx_old tx_new p in
     let tx_knew = link.tx_knew taken left rf reads written wf ports s d x w rx_old rx_new tx_old tx_new p in
-    let popped = c.an_ended_link_popped_all.ensures ports s d x (known_at p.rx_end) w.fits w.known rx_knew own_pop in
-    let before = c.an_ended_link_wrote.ensures.before ports s d x (known_at p.tx_end) w.fits w.known tx_knew own_push in
-    let all = λ done. c.an_ended_link_wrote.ensures.all ports s d x (known_at p.tx_end) w.fits done tx_knew own_push in
     let receives = c.a_receiving_port_ends.ensures.ends rx_old rx_new rx_new.pass.heap p.rx_seat p.rx_closed.unserved p.rx_closed.unfinished p.rx_closed.goes p.rx_closed.agrees in
     let sends = c.a_sending_port_ends.ensures.ends tx_old tx_new p.tx_seat p.tx_closed.unserved p.tx_closed.unfinished p.tx_closed.goes p.tx_closed.agrees in
-    let read_is = c.a_link_reads_and_writes.ensures.read rx_new.served rx_new.finished d.talk.outs receives in
-    let took = c.a_receiving_port_ends.ensures.took rx_old rx_new p.rx_closed.unfinished p.rx_closed.goes in
-    let wrote = c.a_sending_port_ends.ensures.wrote tx_old tx_new p.tx_closed.unserved p.tx_closed.unfinished p.tx_closed.goes in
-    let pieces = link.pieces_are rx_new.finished in
-    let asks = c.an_ended_link_asked_what_it_was_fed.ensures.asks ports s d x w.fits w.known in
-    let so_far = λ not_yet. c.an_ended_link_asked_what_it_was_fed.ensures.so_far ports s d x w.fits w.known not_yet in
-    let whole = λ done. c.an_ended_link_asked_what_it_was_fed.ensures.all ports s d x w.fits done in
-    let on = c.a_text_that_ended_asks_on.ensures.ended (all_bytes d.talk.outs) in
-    let m = link.moved taken left rf reads written wf ports s d x w rx_old rx_new tx_old tx_new p popped before all receives sends read_is took wrote pieces asks so_far whole on in
-    let r = link.result taken left rf reads written wf ports s d x w rx_old rx_new tx_old tx_new p popped before all receives sends read_is took wrote pieces asks so_far whole on in
-    (link.run taken left rf reads written wf ports s d x w rx_old rx_new tx_old tx_new p popped before all receives sends read_is took wrote pieces asks so_far whole on, link.talk taken left rf reads written wf ports s d x w rx_old rx_new tx_old tx_new p popped before all receives sends read_is took wrote pieces asks so_far whole on, m, r)
+    link.closed_link taken left rf reads written wf ports s d x w rx_old rx_new tx_old tx_new p
+    (c.an_ended_link_popped_all.ensures ports s d x (known_at p.rx_end) w.fits w.known rx_knew own_pop)
+    (c.an_ended_link_wrote.ensures.before ports s d x (known_at p.tx_end) w.fits w.known tx_knew own_push)
+    (λ done. c.an_ended_link_wrote.ensures.all ports s d x (known_at p.tx_end) w.fits done tx_knew own_push)
+    receives sends
+    (c.a_link_reads_and_writes.ensures.read rx_new.served rx_new.finished d.talk.outs receives)
+    (c.a_receiving_port_ends.ensures.took rx_old rx_new p.rx_closed.unfinished p.rx_closed.goes)
+    (c.a_sending_port_ends.ensures.wrote tx_old tx_new p.tx_closed.unserved p.tx_closed.unfinished p.tx_closed.goes)
+    (link.pieces_are rx_new.finished)
+    (c.an_ended_link_asked_what_it_was_fed.ensures.asks ports s d x w.fits w.known)
+    (λ not_yet. c.an_ended_link_asked_what_it_was_fed.ensures.so_far ports s d x w.fits w.known not_yet)
+    (λ done. c.an_ended_link_asked_what_it_was_fed.ensures.all ports s d x w.fits done)
+    (c.a_text_that_ended_asks_on.ensures.ended (all_bytes d.talk.outs))

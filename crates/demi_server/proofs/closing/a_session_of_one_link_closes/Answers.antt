@@ -1,8 +1,10 @@
-use Rattle.std.proofs.Common.{◌≡◌, ℕ, ◌+◌, ◌≤◌, List, [], ◌∷◌, length, arith, ◌∙◌, ap, sym, inl, inr}
+use Rattle.std.proofs.Common.{◌≡◌, ℕ, ◌+◌, ◌≤◌, List, [], ◌∷◌, length, arith, ◌∙◌, ap, sym, true, inl, inr}
 use Rattle.std.specs.Prelude.{flat_map}
 use Rattle.demi_port.specs.Seen.{known_at}
 use Rattle.demi_spec.specs.Reply.{Reply, spelling}
 use Rattle.demi_spec.specs.Store.{serial}
+use Rattle.demi_served.specs.Served.{WholeTalk}
+use Rattle.demi_link.specs.Ends.{IsDone}
 use Rattle.demi_server.specs.OnlyLink.{run_of}
 use Rattle.demi_server.proofs.OnlyCloses.{all_taken, asked_all, ends_all, last, one_more}
 use Rattle.demi_server.proofs.closing.a_session_of_one_link_closes.Goals as goal
@@ -11,21 +13,21 @@ pub returns : goal.returns
 returns f = λ ports s d c pass id seat end l e t records w one number added ends alone r left.
     let k = d.talk.kept in
     let me = last s d one pass added in
-    let all = ends_all ports s d c w one pass number added id seat end ends alone l e t r records left f.a_worker_keeps.ensures.handed f.a_worker_keeps.ensures.stopped f.a_link_keeps.ensures.beside f.a_closed_port_has_its_workers.ensures in
+    let all = ends_all ports s d c w one pass number added id seat end ends alone l e t r records left f.a_worker_keeps.ensures.handed f.a_worker_keeps.ensures.stopped f.a_link_keeps.ensures.beside f.a_closed_port_has_its_workers.ensures.closed in
     let run = run_of s.base l records in
-    let asked = asked_all ports s d c w one pass number added id seat end ends alone l e t r records left f.a_worker_keeps.ensures.handed f.a_worker_keeps.ensures.stopped f.a_link_keeps.ensures.beside f.a_closed_port_has_its_workers.ensures
+    let asked = asked_all ports s d c w one pass number added id seat end ends alone l e t r records left f.a_worker_keeps.ensures.handed f.a_worker_keeps.ensures.stopped f.a_link_keeps.ensures.beside f.a_closed_port_has_its_workers.ensures.closed
     f.an_only_link_is_served_in_order.ensures.stopped f.an_only_link_is_served_in_order.ensures.handed_again in
     let torn = f.a_link_reads_and_writes.ensures.talk l e t r.ended in
-    let replies = λ told. f.an_only_link_is_served_in_order.ensures.replies s.base (known_at end) end.history me k run t all told asked in
+    let replies : s.base.told ≡ true → _ = λ told. f.an_only_link_is_served_in_order.ensures.replies s.base (known_at end) end.history me k run t all told asked in
     let few : length k.drawn ≤ length t.replies + 1 = (let m = one_more ports s d c w in let n = ap length r.replies in omega arith) in
-    let more = λ told. f.an_only_link_is_served_in_order.ensures.more s.base (known_at end) end.history me k run t all told asked few in
-    let whole_talk = λ done. f.a_link_reads_and_writes.ensures.whole_talk l e t r.ended (r.all done).2 (r.all done).1 in
+    let more : s.base.told ≡ true → _ = λ told. f.an_only_link_is_served_in_order.ensures.more s.base (known_at end) end.history me k run t all told asked few in
+    let whole_talk : IsDone c → WholeTalk l t = λ done. f.a_link_reads_and_writes.ensures.whole_talk l e t r.ended (r.all done).2 (r.all done).1 in
     record {
       talk = t;
       accounted = f.a_closed_session_is_accounted.ensures.accounted s.base (known_at end) end.history (me ∷ []) (k ∷ []) run (t ∷ []) all;
       link = r.ended;
-      served = λ told. f.a_closed_session_is_served.ensures s.base (known_at end) end.history (me ∷ []) (k ∷ []) run (t ∷ []) told all (torn, tt);
-      whole = λ told done. f.a_session_without_fault_is_whole.ensures s.base (known_at end) end.history (me ∷ []) (k ∷ []) run (t ∷ []) all told
+      served = λ told. f.a_closed_session_is_served.ensures.served s.base (known_at end) end.history (me ∷ []) (k ∷ []) run (t ∷ []) told all (torn, tt);
+      whole = λ told done. f.a_session_without_fault_is_whole.ensures.whole s.base (known_at end) end.history (me ∷ []) (k ∷ []) run (t ∷ []) all told
           ((let x = ap length (r.all done).0 in let y = (r.all done).1 in let z = ap length r.replies in omega arith), tt) (whole_talk done, tt);
       replies = replies;
       output = λ told. f.an_only_link_is_served_in_order.ensures.output l.written t.replies (serial s.base.records s.base.limit t.asks).replies torn.written (replies told);
