@@ -8,7 +8,7 @@ mod Comes
 mod Serves
 mod Closes
 pub mod Stepping
-mod Beside
+pub mod Beside
 mod Versions
 mod Sessions
 mod Wholes

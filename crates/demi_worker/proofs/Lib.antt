@@ -1,0 +1,6 @@
+pub mod Leaving
+pub mod Links
+pub mod Listed
+pub mod Served
+pub mod Standing
+pub mod Ways

@@ -1,0 +1,4 @@
+pub mod Blank
+pub mod Ending
+pub mod Standing
+pub mod Stopping
