@@ -1,7 +1,8 @@
 -- Lists of links, and which links stand in them.
 use Rattle.std.specs.Prelude.{◌≡◌, ◌≢◌, ◌⊎◌, ◌↔◌, ℕ, ◌+◌, List, [], ◌∷◌, ◌++◌, length, refl}
-use Rattle.std.proofs.Common.{sym, ◌∙◌, ap, arith, subst, suc, inl, inr, length-append}
+use Rattle.std.proofs.Common.{sym, ◌∙◌, ap, arith, subst, suc, inl, inr, append-nil, append_assoc, length-append}
 use Rattle.demi_port_core.specs.History.{Among, Each, Within}
+use Rattle.demi_port_core.specs.Trails.{StartsWith}
 use Rattle.demi_port_core.proofs.Lists.{among_left, among_right, each_append, each_back, each_front}
 use Rattle.demi_sched.specs.Going.{Differ, names_of}
 use Rattle.demi_sched.specs.Polling.{Collected}
@@ -170,3 +171,9 @@ one_more_ended H E m n = ((λ a. there (among_either n H (E ++ m ∷ []) a)), ba
     back : (n ≡ m) ⊎ Among n (H ++ E) → Among n (H ++ (E ++ m ∷ []))
     back (inl e) = among_right n H (E ++ m ∷ []) (among_right n E (m ∷ []) (inl e))
     back (inr a) = part (among_either n H E a)
+
+pub starts_self : {X : Type 0} (xs : List X) → StartsWith xs xs
+starts_self xs = ([], sym (append-nil xs))
+
+pub starts_on : {X : Type 0} (xs ys zs : List X) → StartsWith ys xs → StartsWith zs ys → StartsWith zs xs
+starts_on xs ys zs f g = (f.0 ++ g.0, g.1 ∙ ap (λ l. l ++ g.0) f.1 ∙ append_assoc xs f.0 g.0)

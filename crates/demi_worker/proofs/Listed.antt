@@ -19,13 +19,14 @@ pub stopped_beside : (a b : ℕ → Sight) (Q : ℕ → Type 0) → ((n : ℕ) �
 stopped_beside a b Q f [] q s = tt
 stopped_beside a b Q f (e ∷ es) q s = (left_on e.link e.had.value (a e.link) (b e.link) s.0 (f e.link q.0), stopped_beside a b Q f es q.1 s.1)
 
-module _ (ports : ℕ) (a b : ℕ → Sight) (es after : List Ended) (n : ℕ) (cause : Cause) (did : TalkValue) (l : Lists es after n cause did (a n)) where
+module _ (es after : List Ended) (n : ℕ) (cause : Cause) (did : TalkValue) (had : Sight) (l : Lists es after n cause did had) where
   pub links_next : ended_links after ≡ ended_links es ++ n ∷ []
   links_next = ap ended_links l.all ∙ ended_next es l.last ∙ ap (λ m. ended_links es ++ m ∷ []) l.link
 
   pub count_next : length after ≡ length es + 1
   count_next = ap length l.all ∙ length_next es l.last
 
+module _ (ports : ℕ) (a b : ℕ → Sight) (es after : List Ended) (n : ℕ) (cause : Cause) (did : TalkValue) (l : Lists es after n cause did (a n)) where
   pub served_next : IsServed ports n cause did (a n) → Each (HasEnd ports) es → Each (HasEnd ports) after
   served_next v e = subst (Each (HasEnd ports)) (sym l.all) (each_snoc (HasEnd ports) es l.last e
       (subst (λ m. IsServed ports m l.last.cause l.last.talk.value l.last.had.value) (sym l.link)
@@ -41,7 +42,7 @@ module _ (ports : ℕ) (a b : ℕ → Sight) (es after : List Ended) (n : ℕ) (
       (subst (λ (z : Sight). IsLeft n z (b n)) (sym l.had) (left_now n (a n) (b n) s))))
 
   pub once_next : Each (λ m. m ≢ n) (ended_links es) → Differ (ended_links es) → Differ (ended_links after)
-  once_next d e = subst Differ (sym links_next) (differ_next (ended_links es) n e d)
+  once_next d e = subst Differ (sym (links_next es after n cause did (a n) l)) (differ_next (ended_links es) n e d)
 
   pub apart_next : (held : List ℕ) → Each (λ m. m ≢ n) held → Each (λ link. Each (λ m. m ≢ link) held) (ended_links es) → Each (λ link. Each (λ m. m ≢ link) held) (ended_links after)
-  apart_next held d e = subst (Each (λ link. Each (λ m. m ≢ link) held)) (sym links_next) (each_snoc (λ link. Each (λ m. m ≢ link) held) (ended_links es) n e d)
+  apart_next held d e = subst (Each (λ link. Each (λ m. m ≢ link) held)) (sym (links_next es after n cause did (a n) l)) (each_snoc (λ link. Each (λ m. m ≢ link) held) (ended_links es) n e d)

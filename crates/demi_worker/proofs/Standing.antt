@@ -82,6 +82,16 @@ ended_served ports sight k n cause did link phase talk fits = record {
   over = inl (subst (λ m. Fits ports (sight m) k.desk (Over cause)) (sym link) (subst (Fits ports (sight k.desk.link) k.desk) phase fits));
 }
 
+-- the links of those that are held and of the ends, with one more end
+module _ (es after : List Ended) (n : ℕ) (cause : Cause) (did : TalkValue) (had : Sight) (l : Lists es after n cause did had) where
+  pub links_ended : (s t : SchedulerValue LinkValue) (number : ℕ) (k : LinkValue) → k.desk.link ≡ n → Collected s.held number k t.held → SameLinks (taken_in t.held after) (taken_in s.held es)
+  links_ended s t number k is c =
+      let f : (m : ℕ) → Among m (held_links s.held) ↔ ((m ≡ n) ⊎ Among m (held_links t.held)) = λ m. subst (λ x. Among m (held_links s.held) ↔ ((m ≡ x) ⊎ Among m (held_links t.held))) is (out_among s.held t.held number k c m) in
+      subst (λ ns. SameLinks (held_links t.held ++ ns) (taken_in s.held es)) (sym (links_next es after n cause did had l)) (moved_out (held_links s.held) (held_links t.held) (ended_links es) n f)
+
+  pub links_refused : (s : SchedulerValue LinkValue) (m : ℕ) → Among m (taken_in s.held after) ↔ ((m ≡ n) ⊎ Among m (taken_in s.held es))
+  links_refused s m = subst (λ ns. Among m (held_links s.held ++ ns) ↔ ((m ≡ n) ⊎ Among m (taken_in s.held es))) (sym (links_next es after n cause did had l)) (one_more_ended (held_links s.held) (ended_links es) n m)
+
 -- One more end was listed, of a link that is not held any more.
 module _ (ports : ℕ) (a b : ℕ → Sight) (es after : List Ended) (n : ℕ) (cause : Cause) (did : TalkValue) (l : Lists es after n cause did (a n)) (stop : IsStopped (a n) (b n)) (g : LeavesOthers (n ∷ []) a b)
     (v : IsServed ports n cause did (a n)) where
@@ -95,7 +105,7 @@ module _ (ports : ℕ) (a b : ℕ → Sight) (es after : List Ended) (n : ℕ) (
       let left = each_more (λ link. (n ≢ link) × Each (λ m. m ≢ link) (held_links t.held)) (λ link. Each (λ m. m ≢ link) (held_links t.held)) (ended_links es) (λ link e. e.1) apart in
       let fits = (out_each s.held t.held number k c (IsFit ports a) st.fits).1 in
       let one = out_count s.held t.held number k c in
-      let more = count_next ports a b es after n cause did l in
+      let more = count_next es after n cause did (a n) l in
       let room : t.room ≡ s.room = ap (λ (x : SchedulerValue LinkValue). x.room) same in
       let added : t.added ≡ s.added = ap (λ (x : SchedulerValue LinkValue). x.added) same in
       record {
@@ -110,18 +120,13 @@ module _ (ports : ℕ) (a b : ℕ → Sight) (es after : List Ended) (n : ℕ) (
         added = (let r = st.added in omega arith);
       }
 
-  pub links_ended : (s t : SchedulerValue LinkValue) (number : ℕ) (k : LinkValue) → k.desk.link ≡ n → Collected s.held number k t.held → SameLinks (taken_in t.held after) (taken_in s.held es)
-  links_ended s t number k is c =
-      let f = λ m. subst (λ x. Among m (held_links s.held) ↔ ((m ≡ x) ⊎ Among m (held_links t.held))) is (out_among s.held t.held number k c m) in
-      subst (λ ns. SameLinks (held_links t.held ++ ns) (taken_in s.held es)) (sym (links_next ports a b es after n cause did l)) (moved_out (held_links s.held) (held_links t.held) (ended_links es) n f)
-
   -- one that never began
   pub stands_refused : (s : SchedulerValue LinkValue) → (Among n (taken_in s.held es) → ⊥) → length s.held + length es < s.room → Stands ports a s es → Stands ports b s after
   stands_refused s other less st =
       let all = others_of n (taken_in s.held es) other in
       let free = each_front (λ m. m ≢ n) (held_links s.held) (ended_links es) all in
       let others = each_back (λ m. m ≢ n) (held_links s.held) (ended_links es) all in
-      let more = count_next ports a b es after n cause did l in
+      let more = count_next es after n cause did (a n) l in
       record {
         ports = st.ports;
         fits = fits_all ports a b (λ m. m ≢ n) (λ m d. g m ((λ q. d (sym q)), tt)) s.held free st.fits;
@@ -133,9 +138,6 @@ module _ (ports : ℕ) (a b : ℕ → Sight) (es after : List Ended) (n : ℕ) (
         small = st.small;
         added = (let r = st.added in omega arith);
       }
-
-  pub links_refused : (s : SchedulerValue LinkValue) (m : ℕ) → Among m (taken_in s.held after) ↔ ((m ≡ n) ⊎ Among m (taken_in s.held es))
-  links_refused s m = subst (λ ns. Among m (held_links s.held ++ ns) ↔ ((m ≡ n) ⊎ Among m (taken_in s.held es))) (sym (links_next ports a b es after n cause did l)) (one_more_ended (held_links s.held) (ended_links es) n m)
 
 -- one more is held
 pub stands_held : (ports : ℕ) (a : ℕ → Sight) (s t : SchedulerValue LinkValue) (es : List Ended) (h : Held LinkValue) → (Among h.coroutine.desk.link (taken_in s.held es) → ⊥) → length s.held + length es < s.room

@@ -2,3 +2,4 @@ pub mod Blank
 pub mod Ending
 pub mod Standing
 pub mod Stopping
+pub mod Turns

@@ -4,10 +4,11 @@ use Rattle.demi_port_core.specs.History.{Among, Each}
 use Rattle.demi_sched.specs.Going.{Differ, names_of}
 use Rattle.demi_sched.specs.Holding.{SchedulerValue}
 use Rattle.demi_sched.specs.declared.held.Held.{Held}
+use Rattle.demi_served.specs.Keeps.{LinkKeeps, WorkerKeeps}
 use Rattle.demi_link.specs.Ends.{IsKnown}
 use Rattle.demi_link.specs.Fitting.{Fits}
 use Rattle.demi_link.specs.Linked.{LinkValue}
-use Rattle.demi_link.specs.Sights.{LeavesBe, Sight}
+use Rattle.demi_link.specs.Sights.{LeavesBe, Sight, worker_of}
 use Rattle.demi_worker.specs.Ending.{IsServed, OwesNothing}
 use Rattle.demi_worker.specs.Stopping.{IsLeft}
 use Rattle.demi_worker.specs.declared.ended.Ended.{Ended}
@@ -44,6 +45,10 @@ HasEnd ports e = IsServed ports e.link e.cause e.talk.value e.had.value
 -- what its worker has for a link that has ended is what it had then, with both ports stopped
 abbrev pub HasStopped : (ℕ → Sight) → Ended → Type 0
 HasStopped sight e = IsLeft e.link e.had.value (sight e.link)
+
+-- what its worker has for a link that has ended is what the link kept, and the worker keeps its own
+abbrev pub HasKept : (ℕ → Sight) → Ended → Type 0
+HasKept sight e = LinkKeeps (sight e.link).base (worker_of (sight e.link)) e.link e.talk.value.kept × WorkerKeeps (worker_of (sight e.link))
 
 -- where it was not lost, its worker owes nothing for a link that has ended
 abbrev pub HasPaid : (ℕ → Sight) → Ended → Type 0

@@ -1,12 +1,14 @@
 //! How a worker serves its links.
-ghost use Rattle.std.specs.Prelude.{◌≡◌, ℕ, [], false, true};
-ghost use Rattle.demi_port_core.specs.History.{Each, Within};
+ghost use Rattle.std.specs.Prelude.{◌≡◌, ◌≢◌, ℕ, [], false};
+ghost use Rattle.demi_port_core.specs.History.{Each};
 ghost use Rattle.demi_port_core.specs.Trails.{StartsWith};
 ghost use Rattle.demi_sched.specs.Going.{GoesWithin};
 ghost use Rattle.demi_sched.specs.Waiting.{has_ended};
 ghost use Rattle.demi_sched.specs.declared.held.Held.{Held};
 ghost use Rattle.demi_link.specs.Linked.{LinkValue};
-ghost use Rattle.demi_worker.specs.Standing.{HasPaid, LeavesOthers, SameLinks, Stands, ended_links, held_links, taken_in};
+ghost use Rattle.demi_worker.specs.Ending.{IsNew};
+ghost use Rattle.demi_worker.specs.Standing.{HasKept, HasPaid, LeavesOthers, SameLinks, Stands, ended_links, held_links, taken_in};
+ghost use Rattle.demi_worker.specs.Turns.{WentOn};
 
 use crate::serves::Serves;
 use crate::worker::Worker;
@@ -22,11 +24,13 @@ impl<C: Serves> Worker<C> {
         ensures none { self.new.scheduler.held ≡ [] }
         ensures links { SameLinks (ended_links self.new.ended.items) (taken_in self.old.scheduler.held self.old.ended.items) }
         ensures front { StartsWith self.new.ended.items self.old.ended.items }
+        ensures kept { Each (HasKept (C.sight self.new.context)) self.new.ended.items }
         ensures owes { Each (HasPaid (C.sight self.new.context)) self.new.ended.items }
         ensures same { self.new.scheduler ≡ record self.old.scheduler { held = self.new.scheduler.held } }
         ensures number { self.new.number ≡ self.old.number }
         ensures goes { GoesWithin C.goes (held_links self.old.scheduler.held) self.old.context self.new.context }
         ensures others { LeavesOthers (held_links self.old.scheduler.held) (C.sight self.old.context) (C.sight self.new.context) }
+        ensures fresh { (link : ℕ) → Each (λ n. n ≢ link) (held_links self.old.scheduler.held) → IsNew self.old.number (C.sight self.old.context link) link → IsNew self.old.number (C.sight self.new.context link) link }
     {
         for _ in rt.forever() {
             self.collect_all(rt);
@@ -41,11 +45,8 @@ impl<C: Serves> Worker<C> {
     fn round<R: Wait>(&mut self, rt: &R)
         requires { Stands (C.ports self.old.context) (C.sight self.old.context) self.old.scheduler self.old.ended.items }
         ensures stands { Stands (C.ports self.new.context) (C.sight self.new.context) self.new.scheduler self.new.ended.items }
-        ensures links { held_links self.new.scheduler.held ≡ held_links self.old.scheduler.held }
-        ensures same { self.new.scheduler ≡ record self.old.scheduler { held = self.new.scheduler.held } }
-        ensures ended { self.new.ended ≡ self.old.ended }
+        ensures went { WentOn C.goes self.old.context self.new.context self.old.scheduler self.new.scheduler self.old.ended.items self.new.ended.items }
         ensures number { self.new.number ≡ self.old.number }
-        ensures goes { GoesWithin C.goes (held_links self.old.scheduler.held) self.old.context self.new.context }
     {
         let round = self.scheduler.round(&mut self.context);
         self.rest(rt, &round);
@@ -70,12 +71,8 @@ impl<C: Serves> Worker<C> {
         requires { Stands (C.ports self.old.context) (C.sight self.old.context) self.old.scheduler self.old.ended.items }
         ensures stands { Stands (C.ports self.new.context) (C.sight self.new.context) self.new.scheduler self.new.ended.items }
         ensures none { Each (λ (h : Held LinkValue). has_ended h.state ≡ false) self.new.scheduler.held }
-        ensures within { Within (held_links self.new.scheduler.held) (held_links self.old.scheduler.held) }
-        ensures links { SameLinks (taken_in self.new.scheduler.held self.new.ended.items) (taken_in self.old.scheduler.held self.old.ended.items) }
-        ensures front { StartsWith self.new.ended.items self.old.ended.items }
-        ensures same { self.new.scheduler ≡ record self.old.scheduler { held = self.new.scheduler.held } }
+        ensures went { WentOn C.goes self.old.context self.new.context self.old.scheduler self.new.scheduler self.old.ended.items self.new.ended.items }
         ensures number { self.new.number ≡ self.old.number }
-        ensures goes { GoesWithin C.goes (held_links self.old.scheduler.held) self.old.context self.new.context }
     {
         for _ in rt.forever() {
             if !self.collect(rt) {
@@ -89,12 +86,8 @@ impl<C: Serves> Worker<C> {
         requires { Stands (C.ports self.old.context) (C.sight self.old.context) self.old.scheduler self.old.ended.items }
         ensures stands { Stands (C.ports self.new.context) (C.sight self.new.context) self.new.scheduler self.new.ended.items }
         ensures none { result ≡ false → Each (λ (h : Held LinkValue). has_ended h.state ≡ false) self.new.scheduler.held }
-        ensures within { Within (held_links self.new.scheduler.held) (held_links self.old.scheduler.held) }
-        ensures links { SameLinks (taken_in self.new.scheduler.held self.new.ended.items) (taken_in self.old.scheduler.held self.old.ended.items) }
-        ensures front { StartsWith self.new.ended.items self.old.ended.items }
-        ensures same { self.new.scheduler ≡ record self.old.scheduler { held = self.new.scheduler.held } }
+        ensures went { WentOn C.goes self.old.context self.new.context self.old.scheduler self.new.scheduler self.old.ended.items self.new.ended.items }
         ensures number { self.new.number ≡ self.old.number }
-        ensures goes { GoesWithin C.goes (held_links self.old.scheduler.held) self.old.context self.new.context }
     {
         let Some((_number, link)) = self.scheduler.collect() else {
             return false;

@@ -1,6 +1,9 @@
-use Rattle.std.proofs.Common.{◌≢◌, ◌∙◌, ap, inl, refl, subst, sym}
-use Rattle.demi_port_core.specs.History.{Among, Each, Within}
-use Rattle.demi_worker.specs.Standing.{IsFit, SameLinks, held_links, taken_in}
+use Rattle.std.proofs.Common.{◌≢◌, ◌∷◌, [], inl, refl, subst, sym}
+use Rattle.demi_port_core.specs.History.{Among, Each}
+use Rattle.demi_sched.specs.Holding.{SchedulerValue}
+use Rattle.demi_link.specs.Linked.{LinkValue}
+use Rattle.demi_worker.specs.Standing.{IsFit, held_links}
+use Rattle.demi_worker.specs.Turns.{WentOn}
 use Rattle.demi_worker.proofs.Leaving.{leaves_one}
 use Rattle.demi_worker.proofs.Links.{out_among, out_each, out_within}
 use Rattle.demi_worker.proofs.Standing.{ended_served, links_ended, stands_as, stands_ended}
@@ -21,25 +24,16 @@ returns-clause-stands g c =
     stands_as (ports was.context) (ports now.context) (sight now.context) left now.scheduler now.ended.items now.ended.items
         (g.met.C.Scanner.goes_ports end.link was.context now.context e.goes) e.scheduler refl stands
 
-pub returns-clause-within : goal.returns-clause-within
-returns-clause-within g c =
-    let held = c.args.self.now.scheduler.held in let left = c.collect.new.self.held in
-    subst (λ hs. Within (held_links hs) (held_links held)) (sym (ap (λ s. s.held) c.list.ensures.scheduler)) (out_within held left c.in-Some._number c.in-Some.link c.in-Some.ensures.some)
-
-pub returns-clause-links : goal.returns-clause-links
-returns-clause-links g c =
+pub returns-clause-went : goal.returns-clause-went
+returns-clause-went g c =
     let was = c.args.self.now in let now = c.list.new.self in let left = c.collect.new.self in
     let one = c.in-Some in let k = one.link in let end = c.finish-end.result in let f = c.finish-end.ensures in let e = c.list.ensures in
-    let sight = g.C.Calls.sight in let ports = g.C.Scanner.ports in
-    let fit = (out_each was.scheduler.held left.held one._number k one.ensures.some (IsFit (ports was.context) (sight was.context)) c.requires.fits).0 in
-    let served = ended_served (ports was.context) (sight was.context) k end.link end.cause end.talk.value f.link f.cause f.talk fit in
-    let others = leaves_one g.C.Scanner.goes sight g.met.C.Calls.goes_beside end.link was.context now.context e.goes in
-    subst (λ s. SameLinks (taken_in s.held now.ended.items) (taken_in was.scheduler.held was.ended.items)) (sym e.scheduler)
-        (links_ended (ports was.context) (sight was.context) (sight now.context) was.ended.items now.ended.items end.link end.cause end.talk.value e.listed e.stopped others served was.scheduler left one._number k (sym f.link) one.ensures.some)
-
-pub returns-clause-goes : goal.returns-clause-goes
-returns-clause-goes g c =
-    let was = c.args.self.now in let now = c.list.new.self in let left = c.collect.new.self in let one = c.in-Some in let end = c.finish-end.result in
-    let names = held_links was.scheduler.held in
-    let here = (out_among was.scheduler.held left.held one._number one.link one.ensures.some one.link.desk.link).1 (inl refl) in
-    by_one g.C.Scanner.goes g.met.C.Scanner.goes_self names end.link was.context now.context (subst (λ n. Among n names) (sym c.finish-end.ensures.link) here) c.list.ensures.goes
+    let goes = g.C.Scanner.goes in let names = held_links was.scheduler.held in
+    let here = (out_among was.scheduler.held left.held one._number k one.ensures.some k.desk.link).1 (inl refl) in
+    subst (λ (s : SchedulerValue LinkValue). WentOn goes was.context now.context was.scheduler s was.ended.items now.ended.items) (sym e.scheduler) (record {
+      within = out_within was.scheduler.held left.held one._number k one.ensures.some;
+      links = links_ended was.ended.items now.ended.items end.link end.cause end.talk.value (g.C.Calls.sight was.context end.link) e.listed was.scheduler left one._number k (sym f.link) one.ensures.some;
+      front = (e.listed.last ∷ [], e.listed.all);
+      same = one.ensures.same;
+      way = by_one goes g.met.C.Scanner.goes_self names end.link was.context now.context (subst (λ n. Among n names) (sym f.link) here) e.goes;
+    })
