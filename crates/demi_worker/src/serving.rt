@@ -14,6 +14,7 @@ use crate::serves::Serves;
 use crate::worker::Worker;
 use demi_sched::Round;
 use std::sync::Wait;
+use std::thread::yield_now;
 
 impl<C: Serves> Worker<C> {
     /// Serves its links until each has ended. Each is then listed once, behind those that were listed before, and its ports are
@@ -52,7 +53,8 @@ impl<C: Serves> Worker<C> {
         self.rest(rt, &round);
     }
 
-    // Waits a little after a round that polled nobody.
+    // Waits a little after a round that polled nobody. Where each that was polled is to be polled again, it was refused a
+    // buffer or a token, which other threads will give back.
     fn rest<R: Wait>(&mut self, rt: &R, round: &Round)
         ensures goes { (n : ℕ) → C.goes n self.old.context self.new.context }
         ensures scheduler { self.new.scheduler ≡ self.old.scheduler }
@@ -61,8 +63,11 @@ impl<C: Serves> Worker<C> {
     {
         if round.polled.is_empty() {
             self.context.park(rt, round);
-        } else {
-            self.context.busy();
+            return;
+        }
+        self.context.busy();
+        if self.scheduler.due() as usize == round.polled.len() {
+            yield_now();
         }
     }
 
