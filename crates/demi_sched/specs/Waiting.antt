@@ -39,3 +39,14 @@ has_ended Ended = true
 abbrev pub live : {K : Type 0} → List (Held K) → ℕ
 live [] = 0
 live (h ∷ hs) = cond (has_ended h.state) 0 1 + live hs
+
+-- a coroutine in this state is polled in the next round, whatever is woken
+abbrev pub is_due : State → Bool
+is_due Due = true
+is_due (Waiting tokens) = false
+is_due Ended = false
+
+-- how many of these are
+abbrev pub count_due : {K : Type 0} → List (Held K) → ℕ
+count_due [] = 0
+count_due (h ∷ hs) = cond (is_due h.state) 1 0 + count_due hs

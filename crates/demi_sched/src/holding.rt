@@ -3,7 +3,7 @@ ghost use Rattle.std.specs.Prelude.{◌≡◌, ◌≤◌, IfNone, IfSome, false,
 ghost use Rattle.std.specs.Vec.{vec_capacity};
 ghost use Rattle.demi_port_core.specs.History.{Each};
 ghost use Rattle.demi_sched.specs.Polling.{Collected};
-ghost use Rattle.demi_sched.specs.Waiting.{has_ended, live};
+ghost use Rattle.demi_sched.specs.Waiting.{count_due, has_ended, live};
 ghost use Rattle.demi_sched.specs.declared.held.Held.{Held};
 
 use crate::held::Held;
@@ -18,6 +18,18 @@ pub(crate) fn count_live<K>(all: &Vec<Held<K>>) -> u32
         live += held.state.count();
     }
     live
+}
+
+// How many are due.
+pub(crate) fn count_due<K>(all: &Vec<Held<K>>) -> u32
+    requires { length all.now.items ≤ 64 }
+    ensures { result ≡ count_due all.now.items }
+{
+    let mut due = 0;
+    for held in all.iter() {
+        due += held.state.count_due();
+    }
+    due
 }
 
 // Takes out the first that is over.

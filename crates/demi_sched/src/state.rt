@@ -1,6 +1,6 @@
 //! How a coroutine stands between polls.
 ghost use Rattle.std.specs.Prelude.{◌≡◌, cond};
-ghost use Rattle.demi_sched.specs.Waiting.{has_ended, state_after};
+ghost use Rattle.demi_sched.specs.Waiting.{has_ended, is_due, state_after};
 
 use crate::next::Next;
 use arrayvec::ArrayVec;
@@ -34,6 +34,17 @@ impl State {
         ensures { result ≡ has_ended self.now }
     {
         matches!(self, State::Ended)
+    }
+
+    // 1 where it is due, and else 0.
+    pub(crate) fn count_due(&self) -> u32
+        ensures { result ≡ cond (is_due self.now) 1 0 }
+    {
+        match self {
+            State::Due => 1,
+            State::Waiting(_) => 0,
+            State::Ended => 0,
+        }
     }
 
     // 1 where it is not over, and else 0.

@@ -1,0 +1,5 @@
+pub mod Blank
+pub mod Ending
+pub mod Standing
+pub mod Stopping
+pub mod Turns
