@@ -2,7 +2,7 @@
 use Rattle.std.specs.Prelude.{ℕ, false, []}
 use Rattle.demi_heap.specs.Seen.{HeapId}
 use Rattle.demi_store.specs.Laws.{no_store}
-use Rattle.demi_link.specs.Sights.{Side, Sight}
+use Rattle.demi_link.specs.Sights.{Side, Sight, nothing_due}
 
 abbrev pub no_heap : HeapId
 no_heap = record {
@@ -13,10 +13,6 @@ no_heap = record {
 abbrev pub no_side : {D T : Type 0} → Side D T
 no_side = record { seen = 0; submitted = []; redeemed = []; known = record { device = false; heard = []; told = []; floor = 0; handed = [] } }
 
--- no token of a link is to be redeemed
-abbrev pub no_due : ℕ
-no_due = 0
-
 -- what a worker has for a link where it has nothing
 abbrev pub no_sight : Sight
-no_sight = record { heap = no_heap; base = no_store; number = 0; store = no_side; draws = []; rx = no_side; tx = no_side; out = 0; due = no_due }
+no_sight = record { heap = no_heap; base = no_store; number = 0; store = no_side; draws = []; rx = no_side; tx = no_side; out = 0; due = nothing_due }

@@ -4,12 +4,11 @@ use Rattle.demi_served.specs.Keeps.{WorkerKeeps}
 use Rattle.demi_link.specs.Ends.{new_desk}
 use Rattle.demi_link.specs.Fitting.{Fits}
 use Rattle.demi_link.specs.Linked.{IsFresh}
-use Rattle.demi_link.specs.Sights.{Sight, worker_of}
+use Rattle.demi_link.specs.Sights.{Sight, nothing_due, worker_of}
 use Rattle.demi_link.specs.Talks.{DeskValue, TalkValue}
 use Rattle.demi_link.specs.declared.phase.Cause.{Cause}
 use Rattle.demi_link.specs.declared.phase.Cause.TheVariants.{NoMemory}
 use Rattle.demi_link.specs.declared.phase.Phase.TheVariants.{Over, Reading}
-use Rattle.demi_worker.specs.Blank.{no_due}
 use Rattle.demi_worker.specs.declared.ended.Ended.{Ended}
 
 -- The worker of this number did nothing for the link yet, and keeps its own.
@@ -45,4 +44,4 @@ pub record Lists (before after : List Ended) (number : ℕ) (why : Cause) (did :
 -- Each half that was taken for the link was given back, and each token of its submissions was redeemed.
 pub record OwesNothing (s : Sight) : Type 0 where
   pub out : s.out ≡ 0
-  pub due : s.due ≡ no_due
+  pub due : s.due ≡ nothing_due
