@@ -1,4 +1,4 @@
-use crate::block::free;
+
 use crate::{Block, Class};
 use demi_core::NoMemory;
 use std::test::Fail;

@@ -1,5 +1,0 @@
-use Rattle.std.proofs.Common.{vec_len}
-use Rattle.demi_buf.proofs.block.free.Given as goal
-
-abbrev pub decreases-loop-buf : goal.decreases-loop-buf
-decreases-loop-buf l = vec_len l.bufs
