@@ -1,7 +1,6 @@
 //! The superblocks of a heap: carved into a row of slots, and taken back from it.
 ghost use Rattle.std.specs.Prelude.{◌≡◌, ℕ, ◌+◌, ◌<◌, ◌≤◌, [], ◌∷◌, ◌++◌, length, vec_len, vec_capacity, OnOk};
-ghost use Rattle.std.specs.Vec.{vec_ptr};
-ghost use denote.RawPtr.{block_of};
+ghost use Rattle.demi_buf.specs.Bufs.{superblock_of};
 ghost use Rattle.demi_heap.specs.Rule.{first_of, end_of};
 ghost use Rattle.demi_heap.specs.Laid.{HasClasses, IsLaid, IsNewBlock, counts_shape};
 
@@ -20,7 +19,7 @@ fn lay_down(
     mut bufs: Vec<Buf>,
 )
     requires room { (vec_len row.old + vec_len bufs ≤ vec_capacity row.old) × (vec_len carves.old < vec_capacity carves.old) }
-    requires new { IsNewBlock (block_of (vec_ptr bufs)) bufs.items class × (vec_len bufs ≤ vec_capacity bufs) × (1 ≤ vec_len bufs) × (vec_len bufs ≤ BLOCK_LIMIT) }
+    requires new { IsNewBlock (superblock_of bufs.items) bufs.items class × (vec_len bufs ≤ vec_capacity bufs) × (1 ≤ vec_len bufs) × (vec_len bufs ≤ BLOCK_LIMIT) }
     requires slots { (first_of (counts_shape counts.now) class ≤ length row.old.items) × (length row.old.items + vec_len bufs ≤ end_of (counts_shape counts.now) class) }
     requires laid { IsLaid carves.old.items row.old.items × HasClasses (counts_shape counts.now) row.old.items }
     ensures laid { IsLaid carves.new.items row.new.items × HasClasses (counts_shape counts.now) row.new.items }
@@ -28,11 +27,12 @@ fn lay_down(
 {
     let _ = counts;
     let count = bufs.len() as u32;
+    let place = bufs[0].place();
     for _ in 0..count {
         let buf = bufs.take_last();
         row.push_reserved(Some(buf));
     }
-    carves.push_reserved(Carve { count, bufs });
+    carves.push_reserved(Carve { count, place, bufs });
 }
 
 // One superblock more, for slots of the class.
@@ -116,7 +116,11 @@ fn take_back(carves: &Vec<Carve>, row: &mut Vec<Option<Buf>>, carve: Carve)
     ensures { IsLaid carves.now.items row.new.items }
 {
     let _ = carves;
-    let Carve { count, mut bufs } = carve;
+    let Carve {
+        count,
+        place: _,
+        mut bufs,
+    } = carve;
     for _ in 0..count {
         match row.take_last() {
             Some(buf) => bufs.push_reserved(buf),

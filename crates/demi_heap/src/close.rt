@@ -130,7 +130,11 @@ fn join_block(closed: &mut Ended, end: u32, carve: Carve)
     ensures taken { IsTakenFrom (slots_filled closed.new.slots) (slots_len closed.new.slots) (end - carve.count) }
     ensures same { (slots_items closed.new.slots ≡ slots_items closed.old.slots) × (slots_len closed.new.slots ≡ slots_len closed.old.slots) × (closed.new.words ≡ closed.old.words) }
 {
-    let Carve { count, mut bufs } = carve;
+    let Carve {
+        count,
+        place: _,
+        mut bufs,
+    } = carve;
     for taken in 0..count {
         match take_at(closed, end - taken - 1) {
             Some(buf) => bufs.push_reserved(buf),
@@ -146,7 +150,11 @@ fn give_up(closed: &mut Ended, end: u32, carve: Carve)
     ensures taken { IsTakenFrom (slots_filled closed.new.slots) (slots_len closed.new.slots) (end - carve.count) }
     ensures same { (slots_items closed.new.slots ≡ slots_items closed.old.slots) × (slots_len closed.new.slots ≡ slots_len closed.old.slots) × (closed.new.words ≡ closed.old.words) }
 {
-    let Carve { count, bufs } = carve;
+    let Carve {
+        count,
+        place: _,
+        bufs,
+    } = carve;
     for taken in 0..count {
         if let Some(buf) = take_at(closed, end - taken - 1) {
             buf.lose();

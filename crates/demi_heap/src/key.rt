@@ -1,23 +1,23 @@
 //! What is fixed about a heap, and the vectors that its superblocks came in.
 use crate::counts::Counts;
-use demi_buf::Buf;
+use demi_buf::{Buf, Place};
 use std::marker::Model;
 
-/// The emptied vector of one carve, kept for the buffers to be joined in. While it is there, no other superblock has its place.
+/// One superblock: where it lies, and the emptied vector of its carve, kept for the buffers to be joined in.
 pub struct Carve {
     pub(crate) count: u32,
+    pub(crate) place: Place,
     pub(crate) bufs: Vec<Buf>,
 }
 
 impl Model for Carve {
     ghost use Rattle.std.specs.Prelude.{◌≡◌, ◌≤◌, [], vec_capacity, vec_len};
-    ghost use Rattle.std.specs.Vec.{vec_ptr};
-    ghost use denote.RawPtr.{block_of};
+    ghost use Rattle.demi_buf.specs.Names.{place_number};
     ghost use Rattle.demi_heap_core.specs.declared.shape.Superblock.{Superblock};
 
     ghost Value = { Superblock };
 
-    ghost view = { λ c. record { place = block_of (vec_ptr c.bufs); count = c.count } };
+    ghost view = { λ c. record { place = place_number c.place; count = c.count } };
 
     ghost invariant = { λ c. (c.bufs.items ≡ []) × (vec_len c.bufs ≡ 0) × (c.count ≤ vec_capacity c.bufs) × (1 ≤ c.count) × (c.count ≤ 64) };
 }

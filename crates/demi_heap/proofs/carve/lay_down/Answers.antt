@@ -1,14 +1,13 @@
-use Rattle.std.proofs.Common.{◌≡◌, ℕ, ◌+◌, ◌-◌, ◌<◌, List, [], ◌∷◌, ◌++◌, length, sym, ap, ◌∙◌, subst, arith, refl}
-use Rattle.std.specs.Vec.{vec_ptr}
-use denote.RawPtr.{block_of}
-use Rattle.demi_buf.specs.Bufs.{carved}
+use Rattle.std.proofs.Common.{◌≡◌, ℕ, ◌+◌, ◌-◌, ◌<◌, List, [], ◌∷◌, ◌++◌, length, get_or, sym, ap, ◌∙◌, subst, arith}
+use Rattle.demi_buf.specs.Bufs.{BufValue, carved, superblock_of}
+use Rattle.demi_buf.specs.Names.{place_number}
 use Rattle.demi_heap_core.specs.declared.shape.Superblock.{Superblock}
 use Rattle.demi_heap.specs.Laid.{counts_shape, EachLies, IsLaid}
 use Rattle.demi_heap.proofs.Laying.{total_snoc, lies_wider, lay_next}
 use Rattle.demi_heap.proofs.carve.lay_down.Goals as goal
 
 pub loop-init : goal.loop-init
-loop-init c = let n : ℕ = c.len-count.result in let p = block_of (vec_ptr c.args.bufs) in let rs = c.args.carves.now.items in let row = c.args.row.now.items in
+loop-init c = let n : ℕ = c.len-count.result in let p = superblock_of c.args.bufs.items in let rs = c.args.carves.now.items in let row = c.args.row.now.items in
     let r : Superblock = record { place = p; count = n } in let bufs = c.args.bufs.items in
     let laid = c.requires.laid.0 in let wide = laid.wide in
     let size : length bufs ≡ n = omega arith in let whole : bufs ≡ carved p c.args.class n n = subst (λ (m : ℕ). bufs ≡ carved p c.args.class m m) size c.requires.new.0 in
@@ -20,11 +19,10 @@ loop-init c = let n : ℕ = c.len-count.result in let p = block_of (vec_ptr c.ar
       omega arith,
       lies_wider rs (r ∷ []) row (omega arith) laid.each,
       c.requires.laid.1,
-      refl,
     )
 
 pub loop-preserved : goal.loop-preserved
-loop-preserved c = let n : ℕ = c.len-count.result in let p = block_of (vec_ptr c.args.bufs) in let rs = c.args.carves.now.items in let h = counts_shape c.args.counts.now in
+loop-preserved c = let n : ℕ = c.len-count.result in let p = superblock_of c.args.bufs.items in let rs = c.args.carves.now.items in let h = counts_shape c.args.counts.now in
     let before = c.loop.invariant in let i : ℕ = c.loop.counter in let more = c.loop-test.true in let some_left : 0 < n - i = omega arith in let long = before.3 in
     let laid = c.requires.laid.0 in let wide = laid.wide in let near = c.requires.slots in let low = near.0 in let high = near.1 in
     let one = lay_next h c.args.class rs p n (n - i) i c.loop.bufs.items c.take_last-buf.new.self.items c.take_last-buf.result c.loop.row.items c.push_reserved.new.self.items
@@ -37,13 +35,19 @@ loop-preserved c = let n : ℕ = c.len-count.result in let p = block_of (vec_ptr
       omega arith,
       one.1,
       one.2,
-      c.take_last-buf.ensures.in_place ∙ before.7,
     )
 
 pub returns-clause-laid : goal.returns-clause-laid
 returns-clause-laid c = let n : ℕ = c.len-count.result in let rs = c.args.carves.now.items in
-    let before = c.loop.invariant in let r : Superblock = record { place = block_of (vec_ptr c.loop.bufs); count = n } in
+    let before = c.loop.invariant in let r : Superblock = record { place = place_number c.place-place.result; count = n } in
+    let lens = c.args.bufs.ok.0 in let low = c.requires.new.2 in let some_one : 0 < length c.args.bufs.items = omega arith in
+    let is : superblock_of c.args.bufs.items ≡ place_number c.place-place.result = first_of c.args.bufs.items c.index.result.now some_one c.index.ensures ∙ sym c.place-place.ensures in
     let long = before.3 in let wide = c.requires.laid.0.wide in let t = total_snoc rs r in (
-      subst (λ (xs : List Superblock). IsLaid xs c.loop.row.items) (sym c.push_reserved-2.ensures.items) record { wide = omega arith; each = subst (λ q. EachLies (rs ++ record { place = block_of q; count = n } ∷ []) c.loop.row.items) (sym before.7) before.5 },
+      subst (λ (xs : List Superblock). IsLaid xs c.loop.row.items) (sym c.push_reserved-2.ensures.items) record { wide = omega arith; each = subst (λ (q : ℕ). EachLies (rs ++ record { place = q; count = n } ∷ []) c.loop.row.items) is before.5 },
       before.6,
     )
+
+  where
+    first_of : (bs : List BufValue) (b : BufValue) → 0 < length bs → b ≡ get_or bs 0 b → superblock_of bs ≡ b.block
+    first_of [] b lt e = absurd (omega arith)
+    first_of (x ∷ bs) b lt e = ap (λ (y : BufValue). y.block) (sym e)
