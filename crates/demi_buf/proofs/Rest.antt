@@ -31,11 +31,11 @@ module _ (block count k : ℕ) (xs : List BufValue) (rest : IsRest block count k
           let at : (j : ℕ) → j < n → BufValue = λ j lt. get_or xs j d in
           let slot : ℕ → ℕ = λ j. (get_or xs j d).slot in
           let low : (j : ℕ) → j < n → (k < slot j) × (slot j < count) = λ j lt. let is = or_elem xs j d lt in let a = rest.alike j (get_or xs j d) is in let o = other j (get_or xs j d) lt is in
-              (omega (arith, a.2, o.1), omega (arith, o.0, a.1)) in
+          (omega (arith, a.2, o.1), omega (arith, o.0, a.1)) in
           let f : ℕ → ℕ = λ j. slot j - (k + 1) in
           let into : (j : ℕ) → j < n → f j < n - 1 = λ j lt. let l = low j lt in omega (arith, l.0, l.1, left) in
           let one : (i j : ℕ) → i < n → j < n → f i ≡ f j → i ≡ j = λ i j li lj same. let a = low i li in let b = low j lj in
-              rest.once i j (get_or xs i d) (get_or xs j d) (or_elem xs i d li) (or_elem xs j d lj) (omega (arith, a.0, b.0, same)) in
+          rest.once i j (get_or xs i d) (get_or xs j d) (or_elem xs i d li) (or_elem xs j d lj) (omega (arith, a.0, b.0, same)) in
           let small = pigeonhole n (n - 1) f into one in omega (arith, small, left, some_left)
 
   module _ (ys : List BufValue) (p : ℕ) (b : BufValue) (in_it : p < length xs) (is : b ≡ get_or xs p b) (low : b.slot ≡ k) (one : length ys + 1 ≡ length xs)
@@ -51,17 +51,21 @@ module _ (block count k : ℕ) (xs : List BufValue) (rest : IsRest block count k
         (λ other. (j, or_elem xs j c (omega arith) ∙ ap some (sym (moved.1 j c other (omega arith)) ∙ r.1), other, inl (refl, other)))
 
     pub taken : (b.block ≡ block) × (b.count ≡ count) × IsRest block count (k + 1) ys
-    taken = let mine = rest.alike p b here in let left = rest.left in (mine.0, mine.1, record {
-      left = omega arith;
-      alike = λ j c e. let f = from j c e in let a = rest.alike f.0 c f.1 in
-          (a.0, a.1, dite (ℕ_discrete c.slot k) (λ same. absurd (f.2 (rest.once f.0 p c b f.1 here (same ∙ sym low)))) (λ other. omega (arith, a.2, other)));
-      once = λ i j a c e g same. let f = from i a e in let h = from j c g in let o = rest.once f.0 h.0 a c f.1 h.1 same in
-          let li = (elem_or ys i a a e).0 in let lj = (elem_or ys j c c g).0 in
-          elim f.3 [
-            | inl u ↦ elim h.3 [ inl v ↦ omega (arith, u.0, v.0, o) | inr v ↦ absurd (omega (arith, u.0, v.1, o, li, one)) ]
-            | inr u ↦ elim h.3 [ inl v ↦ absurd (omega (arith, u.1, v.0, o, lj, one)) | inr v ↦ omega (arith, u.0, v.0) ]
-          ];
-    })
+    taken = let mine = rest.alike p b here in let left = rest.left in (
+      mine.0,
+      mine.1,
+      record {
+        left = omega arith;
+        alike = λ j c e. let f = from j c e in let a = rest.alike f.0 c f.1 in
+            (a.0, a.1, dite (ℕ_discrete c.slot k) (λ same. absurd (f.2 (rest.once f.0 p c b f.1 here (same ∙ sym low)))) (λ other. omega (arith, a.2, other)));
+        once = λ i j a c e g same. let f = from i a e in let h = from j c g in let o = rest.once f.0 h.0 a c f.1 h.1 same in
+            let li = (elem_or ys i a a e).0 in let lj = (elem_or ys j c c g).0 in
+            elim f.3 [
+              | inl u ↦ elim h.3 [ inl v ↦ omega (arith, u.0, v.0, o) | inr v ↦ absurd (omega (arith, u.0, v.1, o, li, one)) ]
+              | inr u ↦ elim h.3 [ inl v ↦ absurd (omega (arith, u.1, v.0, o, lj, one)) | inr v ↦ omega (arith, u.0, v.0) ]
+            ];
+      },
+    )
 
 head_snoc : (l : List BufValue) (x : BufValue) (b : ℕ) → x.block ≡ b → (0 < length l → superblock_of l ≡ b) → superblock_of (l ++ x ∷ []) ≡ b
 head_snoc [] x b e h = e

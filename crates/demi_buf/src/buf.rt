@@ -121,12 +121,7 @@ impl Buf {
         requires { n ≤ size_of self.old.class }
         ensures { self.new ≡ record self.old { bytes = take n self.old.bytes ++ replicate (n - length self.old.bytes) 0 } }
     {
-        resize(
-            &mut self.cells,
-            self.base,
-            self.len as usize,
-            n as usize,
-        );
+        resize(&mut self.cells, self.base, self.len as usize, n as usize);
         self.len = n;
     }
 

@@ -91,7 +91,6 @@ pieces_are (o ∷ os) = go (pieces_are os) o.1
 module _ {I O : Type 0} (taken : I → ℕ) (left : I → Option (List ℕ)) (read_faults : I → ℕ) (reads : I → ℕ → Option (List ℕ) → I → Type 0) (written : O → Option (List ℕ)) (write_faults : O → ℕ)
     (ports : ℕ) (s : Sight) (d : DeskValue) (c : Cause) (served : WasServed ports s d c)
     (rx_old rx_new : RxValue I) (tx_old tx_new : TxValue O) (p : PortsClosed taken left read_faults reads written write_faults s rx_old rx_new tx_old tx_new) where
-
   pub own_pop : (i max : ℕ) → slice_get p.rx_end.heard i ≡ Some (rx_op.Pop max) → Among i (places s.rx.submitted)
   own_pop i max at = submitted_before p.rx_id p.rx_seat p.rx_passes p.rx_end p.rx_closed.ends s.number p.rx_only p.rx_pass p.rx_mine.1 p.rx_mine.0 rx_op.Stop s.rx p.rx_added i (rx_op.Pop max) at (λ e. absurd (cc))
 

@@ -83,10 +83,10 @@ module _ (ports : ℕ) (s : Sight) (d : DeskValue) (c : Cause) (w : WasServed po
     (stops : (v : Worker) (p q : ℕ) → WorkerKeeps v → WorkerKeeps (after_stop v p q))
     (keeps_beside : (b : StoreBasis) (v x : Worker) (link : ℕ) (k : Link) → LinkKeeps b v link k → GoesBeside link v x → LinkKeeps b x link k)
     (closed : (z : StoreEnd) (workers : List Worker) (passes : List StorePass) → PassesOf 0 workers passes
-        → Each (λ p. p.submitted ≡ of_pass p.number 0 z.history) passes
-        → ((p : ℕ) (x : StoreEntry) → get_elem? z.history p ≡ some x → x.0 < length passes)
-        → z.heard ≡ says z.history → Each (λ p. Behind (known_at z) (known_by p)) passes
-        → PortClosed (known_at z) z.history workers) where
+    → Each (λ p. p.submitted ≡ of_pass p.number 0 z.history) passes
+    → ((p : ℕ) (x : StoreEntry) → get_elem? z.history p ≡ some x → x.0 < length passes)
+    → z.heard ≡ says z.history → Each (λ p. Behind (known_at z) (known_by p)) passes
+    → PortClosed (known_at z) z.history workers) where
   abbrev pub k : Link
   k = d.talk.kept
 

@@ -20,7 +20,9 @@ ghost use Rattle.demi_streamq.specs.RxGoing.{RxValue};
 ghost use Rattle.demi_streamq.specs.TxGoing.{TxValue};
 
 use demi_core::{Sink, Source};
-use demi_link::{an_ended_link_asked_what_it_was_fed, an_ended_link_popped_all, an_ended_link_wrote};
+use demi_link::{
+    an_ended_link_asked_what_it_was_fed, an_ended_link_popped_all, an_ended_link_wrote,
+};
 use demi_served::{
     a_closed_port_has_its_workers, a_closed_session_is_accounted, a_closed_session_is_served,
     a_link_keeps, a_link_reads_and_writes, a_receiving_port_ends, a_sending_port_ends,

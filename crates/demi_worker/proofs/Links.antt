@@ -95,8 +95,7 @@ module _ (hs left : List (Held LinkValue)) (number : ℕ) (k : LinkValue) (t : C
 
   pub out_among : (n : ℕ) → Among n (held_links hs) ↔ ((n ≡ k.desk.link) ⊎ Among n (held_links left))
   out_among n =
-      let f = held_links t.front in let r = held_links t.back in
-      (
+      let f = held_links t.front in let r = held_links t.back in (
         (λ a. subst (λ ns. (n ≡ k.desk.link) ⊎ Among n ns) (sym are) (among_amid n k.desk.link f r (subst (Among n) were a))),
         (λ a. subst (Among n) (sym were) (amid_among n k.desk.link f r (subst (λ ns. (n ≡ k.desk.link) ⊎ Among n ns) are a))),
       )

@@ -100,7 +100,7 @@ module _ (ports : ℕ) (a b : ℕ → Sight) (es after : List Ended) (n : ℕ) (
       → Stands ports a s es → Stands ports b t after
   stands_ended s t number k is c same free st =
       let apart = each_more (λ link. Each (λ m. m ≢ link) (held_links s.held)) (λ link. (n ≢ link) × Each (λ m. m ≢ link) (held_links t.held)) (ended_links es)
-          (λ link e. let o = out_names s.held t.held number k c (λ m. m ≢ link) e in (subst (λ m. m ≢ link) is o.0, o.1)) st.apart in
+      (λ link e. let o = out_names s.held t.held number k c (λ m. m ≢ link) e in (subst (λ m. m ≢ link) is o.0, o.1)) st.apart in
       let others = each_more (λ link. (n ≢ link) × Each (λ m. m ≢ link) (held_links t.held)) (λ m. m ≢ n) (ended_links es) (λ link e. λ q. e.0 (sym q)) apart in
       let left = each_more (λ link. (n ≢ link) × Each (λ m. m ≢ link) (held_links t.held)) (λ link. Each (λ m. m ≢ link) (held_links t.held)) (ended_links es) (λ link e. e.1) apart in
       let fits = (out_each s.held t.held number k c (IsFit ports a) st.fits).1 in

@@ -14,7 +14,7 @@ taken_out c block rest =
     let same : x ≡ y = c.swap_remove.ensures.value ∙ ((elem_or items i (get_or items i y) x (or_elem items i y (omega arith))).1 ∙ sym c.index.ensures) in
     let slot : x.slot ≡ c.args.slot = ap (λ (b : BufValue). b.slot) same ∙ (sym c.number.ensures.0 ∙ c.if-number-slot.true) in
     let t = taken block c.args.count c.args.slot items (subst (IsRest block c.args.count c.args.slot) (sym c.loop-i.invariant.2) rest) new i x (omega arith) c.swap_remove.ensures.value slot (omega arith)
-        (subst (λ (n : ℕ). ((d : BufValue) → i + 1 < n → get_or new i d ≡ get_or items (n - 1) d) × ((k : ℕ) (d : BufValue) → k ≢ i → k + 1 < n → get_or new k d ≡ get_or items k d)) ok c.swap_remove.ensures.by_index) in
+    (subst (λ (n : ℕ). ((d : BufValue) → i + 1 < n → get_or new i d ≡ get_or items (n - 1) d) × ((k : ℕ) (d : BufValue) → k ≢ i → k + 1 < n → get_or new k d ≡ get_or items k d)) ok c.swap_remove.ensures.by_index) in
     (slot, t.0, t.1, t.2)
 
 pub returns-then-number-slot-clause-slot : goal.returns-then-number-slot-clause-slot
@@ -24,12 +24,15 @@ pub returns-then-number-slot-clause-rest : goal.returns-then-number-slot-clause-
 returns-then-number-slot-clause-rest c = λ block rest. let t = taken_out c block rest in (t.1, t.3)
 
 pub loop-i-preserved : goal.loop-i-preserved
-loop-i-preserved c = let inside = c.loop-i-test.true in let len = c.len.ensures in let i : ℕ = c.loop-i.i in let items = c.loop-i.bufs.items in
-    (omega arith, (λ j b lt e. dite (ℕ_discrete j i)
+loop-i-preserved c = let inside = c.loop-i-test.true in let len = c.len.ensures in let i : ℕ = c.loop-i.i in let items = c.loop-i.bufs.items in (
+  omega arith,
+  (λ j b lt e. dite (ℕ_discrete j i)
       (λ here. let y : BufValue = c.index.result.now in
       let is : b ≡ y = sym (elem_or items i b y (ap (get_elem? items) (sym here) ∙ e)).1 ∙ sym c.index.ensures in
       subst (λ (u : BufValue). (u.slot < u.count) × (u.slot ≢ c.args.slot)) (sym is) (let n = c.number.ensures in (omega (arith, n.0, n.1), (λ s. c.if-number-slot.false (n.0 ∙ s)))))
-      (λ other. c.loop-i.invariant.1 j b (omega arith) e)), c.loop-i.invariant.2)
+      (λ other. c.loop-i.invariant.1 j b (omega arith) e)),
+  c.loop-i.invariant.2,
+)
 
 pub unreachable-requires : goal.unreachable-requires
 unreachable-requires c = let asked = c.requires in let done = c.loop-i-test.false in let len = c.len.ensures in let ok = c.loop-i.bufs.ok.0 in

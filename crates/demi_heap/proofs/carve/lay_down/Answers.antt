@@ -46,7 +46,6 @@ returns-clause-laid c = let n : ℕ = c.len-count.result in let rs = c.args.carv
       subst (λ (xs : List Superblock). IsLaid xs c.loop.row.items) (sym c.push_reserved-2.ensures.items) record { wide = omega arith; each = subst (λ (q : ℕ). EachLies (rs ++ record { place = q; count = n } ∷ []) c.loop.row.items) is before.5 },
       before.6,
     )
-
   where
     first_of : (bs : List BufValue) (b : BufValue) → 0 < length bs → b ≡ get_or bs 0 b → superblock_of bs ≡ b.block
     first_of [] b lt e = absurd (omega arith)

@@ -12,8 +12,7 @@ invariant_of-self-lent c = λ w. let b = c.self.inside in let row = c.self.invar
 
 pub returns : goal.returns
 returns c = let b = c.self.inside in let run = c.self.invariant.0.filled.1 in let xs = somes (take b.len b.cells.slots) in
-    let v : BufValue = record { block = number_of (block_of b.base.ptr) b.class; count = b.count; slot = b.slot; class = b.class; bytes = xs } in
-    (
+    let v : BufValue = record { block = number_of (block_of b.base.ptr) b.class; count = b.count; slot = b.slot; class = b.class; bytes = xs } in (
       (refl, λ w. ap (λ (l : List ℕ). record v { bytes = l }) ((written b.cells.slots b.len run w).2 ∙ ap (λ (k : ℕ). refill k xs w) (sym (count b.cells.slots b.len run))) ∙ ap (λ (u : BufValue). with_bytes u w) c.self.view_is),
       record { writes_back = tt; value = shown b.cells.slots b.len run c.slice_mut.result.now c.slice_mut.ensures.value ∙ ap (λ (u : BufValue). u.bytes) c.self.view_is },
     )

@@ -44,7 +44,7 @@ returns-in-Ok-clause-links g c = λ n.
     let before = taken_in was.scheduler.held was.ended.items in
     let h : Held LinkValue = record { number = was.scheduler.added; coroutine = c.in-Ok.made; state = Due } in
     subst (λ es. Among n (taken_in now.scheduler.held es) ↔ ((n ≡ c.args.link) ⊎ Among n before)) (sym (ap (λ v. v.items) c.hold.ensures.ended))
-        (subst (λ m. Among n (taken_in now.scheduler.held was.ended.items) ↔ ((n ≡ m) ⊎ Among n before)) (ap link_of c.in-Ok.ensures) (links_held was.scheduler now.scheduler was.ended.items h n c.hold.ensures.held))
+    (subst (λ m. Among n (taken_in now.scheduler.held was.ended.items) ↔ ((n ≡ m) ⊎ Among n before)) (ap link_of c.in-Ok.ensures) (links_held was.scheduler now.scheduler was.ended.items h n c.hold.ensures.held))
 
 pub returns-in-Ok-clause-held : goal.returns-in-Ok-clause-held
 returns-in-Ok-clause-held g c =
@@ -67,4 +67,4 @@ pub returns-in-Err-clause-links : goal.returns-in-Err-clause-links
 returns-in-Err-clause-links g c = λ n.
     let was = c.args.self.now in let now = c.refuse.new.self in let link = c.args.link in
     subst (λ s. Among n (taken_in s.held now.ended.items) ↔ ((n ≡ link) ⊎ Among n (taken_in was.scheduler.held was.ended.items))) (sym c.refuse.ensures.scheduler)
-        (links_refused was.ended.items now.ended.items link NoMemory (new_talk was.number) (g.C.Calls.sight was.context link) c.refuse.ensures.listed was.scheduler n)
+    (links_refused was.ended.items now.ended.items link NoMemory (new_talk was.number) (g.C.Calls.sight was.context link) c.refuse.ensures.listed was.scheduler n)
