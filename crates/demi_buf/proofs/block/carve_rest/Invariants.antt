@@ -1,4 +1,4 @@
-use Rattle.std.proofs.Common.{◌≡◌, ◌+◌, ◌-◌, ◌*◌, ◌≤◌, length, vec_len, vec_capacity}
+use Rattle.std.proofs.Common.{◌≡◌, ◌-◌, ◌*◌, ◌≤◌, length, vec_len, vec_capacity}
 use denote.RawPtr.{block_ptr, block_of}
 use Rattle.demi_buf.specs.Bufs.{carved, number_of, size_of}
 use Rattle.demi_buf.proofs.block.carve_rest.Given as goal

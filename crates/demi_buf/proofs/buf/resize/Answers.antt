@@ -1,4 +1,4 @@
-use Rattle.std.proofs.Common.{◌≡◌, ℕ, List, Option, length, take, refl, sym, ap, ◌∙◌, subst, arith}
+use Rattle.std.proofs.Common.{ℕ, List, Option, length, take, sym, ap, ◌∙◌, subst, arith}
 use Rattle.demi_buf.specs.Places.{IsRun, somes}
 use Rattle.demi_buf.proofs.Runs.{grown, shrunk, with_more, with_fewer}
 use Rattle.demi_buf.proofs.buf.resize.Goals as goal

@@ -1,4 +1,4 @@
-use Rattle.std.proofs.Common.{◌≡◌, ℕ, sym, ap, ◌∙◌, arith}
+use Rattle.std.proofs.Common.{ℕ, sym, ap, ◌∙◌, arith}
 use denote.RawPtr.{block_of}
 use Rattle.demi_buf.specs.Bufs.{carved, superblock_of, number_of}
 use Rattle.demi_buf.proofs.Rest.{carved_first}

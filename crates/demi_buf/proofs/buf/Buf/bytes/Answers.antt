@@ -1,4 +1,4 @@
-use Rattle.std.proofs.Common.{◌≡◌, ap, ◌∙◌}
+use Rattle.std.proofs.Common.{ap, ◌∙◌}
 use Rattle.demi_buf.proofs.Runs.{shown}
 use Rattle.demi_buf.proofs.buf.Buf.bytes.Goals as goal
 

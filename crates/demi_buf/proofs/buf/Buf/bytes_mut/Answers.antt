@@ -1,4 +1,4 @@
-use Rattle.std.proofs.Common.{◌≡◌, ℕ, List, take, refl, sym, ap, ◌∙◌}
+use Rattle.std.proofs.Common.{ℕ, List, take, refl, sym, ap, ◌∙◌}
 use Rattle.std.specs.List.{refill}
 use denote.RawPtr.{block_of}
 use Rattle.demi_buf.specs.Bufs.{BufValue, number_of, with_bytes}

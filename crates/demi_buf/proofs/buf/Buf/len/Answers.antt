@@ -1,4 +1,4 @@
-use Rattle.std.proofs.Common.{◌≡◌, length, sym, ap, ◌∙◌}
+use Rattle.std.proofs.Common.{length, sym, ap, ◌∙◌}
 use Rattle.demi_buf.proofs.Runs.{count}
 use Rattle.demi_buf.proofs.buf.Buf.len.Goals as goal
 

@@ -1,40 +1,33 @@
 -- `join` puts places side by side. Assumes `Logic`.
 use mathlib.Core.Path.{◌≡◌, refl, sym, ap, subst, ◌∙◌}
-use Prim.Native.Nat.{ℕ, ◌+◌, ◌*◌, ◌≤◌, ◌<◌, ◌^◌}
-use native.Mathlib.Omega.{arith}
+use Prim.Native.Nat.{ℕ, ◌+◌, ◌*◌, ◌<◌, ◌^◌}
 use mathlib.Core.List.{List, [], ◌∷◌, ◌++◌}
-use lib.ListN.{length, take, drop as drop_l, length-take, length-drop, length-append, take-append-drop}
-use mir.Syntax.{Fn, w64}
+use lib.ListN.{length, length-append}
+use mir.Syntax.{Fn}
 use mir.MapTy.{inst_fn}
-use mir.Val.{Val, vint}
+use mir.Val.{Val}
 use base.Logic.{SProp, emp, never, id⊢}
 use base.Fml.{Lft}
-use prog.Wp.{Env, WpFn}
+use prog.Wp.{WpFn}
 use contract.BorrowLft.{◌⊑◌}
 use contract.Monad.{fact, fact_i}
 use contract.Running.{tables}
-use types.Kit.{‵, raw, ◌⊛◌, prop, at_ret, ◌$◌, ◌∵◌, !, qed, by, move, keep, drop, use0, use1, use2, split, rewrite, regoal, fsplit, fjoin, feq_l, flt_l, flt_i}
-use types.Part.{whole, sub, agg}
-use types.Run.{stop, fld, of_opd, bin, size_word, no_more, and_then, first, blocks, exec, returns, enter}
-use types.ByLocal.{alloc_all, pass_all, free_all, look_at, get, get_in, sets, sets_last, is, env}
-use denote.RattleType.{RattleType, owns}
-use denote.RawPtr.{Ptr, InBlock, block_ptr, block_of, count_of, at_block, in_a_block}
+use types.Kit.{‵, raw, ◌⊛◌, prop, ◌$◌, ◌∵◌, !, qed, by, move, drop, use0, use2, split, rewrite, regoal, fsplit, fjoin, flt_l, flt_i}
+use types.Part.{agg}
+use types.Run.{no_more, and_then, returns, enter}
+use types.ByLocal.{alloc_all, pass_all, free_all, look_at, get, sets}
+use denote.RattleType.{owns}
+use denote.RawPtr.{Ptr, block_ptr, in_a_block}
 use denote.Signature.{types_at}
-use denote.Struct.Tuple.{Tuple}
 use denote.Steps.{nothing, heard}
 use denote.Triple.Entry.{alive}
-use denote.Triple.Walked.{Stays, stay_dropped, walk_of, Goes-dropped}
+use denote.Triple.Walked.{Stays, stay_dropped, walk_of}
 use Rattle.core.specs.Ptr.{ptr_add}
 use Rattle.core.proofs.alloc.Calls.{Goes-blank}
 use Rattle.core.proofs.mem.Param.{El, R, args}
-use Rattle.core.proofs.ptr.Rows.{times_below}
-use Rattle.core.proofs.slots.Leases.{uncapped}
-use Rattle.std_alloc.proofs.Pairs.{pair_of, pair_val}
-use Rattle.std_alloc.proofs.RcSteps.{word, word-Good}
-use Rattle.std_alloc.proofs.VecSteps.Shapes.{after}
 use Rattle.std.proofs.raw_atomic.Walks.{proved_at, leaves}
 use Rattle.demi_buf.proofs.Walks.{slot_at}
-use Rattle.demi_buf.proofs.Memory.{Cr, Bs, Mark, sz, Place, mark, mark_had, mark_made, word_had, word_made, cut, glue}
+use Rattle.demi_buf.proofs.Memory.{Cr, Mark, sz, Place, mark, mark_had, mark_made, glue}
 use Rattle.demi_buf.specs.Ownership.{slots, cells_own}
 use Rattle.demi_buf.specs.contracts.cells.Cells.join.{ended, clauses}
 use Rattle.demi_buf.specs.contracts.cells.Cells.join.Key.{name as #self}

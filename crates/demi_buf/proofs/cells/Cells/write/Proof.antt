@@ -47,7 +47,7 @@ use Rattle.core.proofs.mem.Param.{El, R, args, elτ}
 use Rattle.core.proofs.ptr.Rows.{times_below, one_below}
 use Rattle.std_alloc.proofs.RawLayout.{as_written}
 use Rattle.demi_buf.specs.Ownership.{slot, slots, cells_own}
-use Rattle.demi_buf.proofs.Memory.{Cr, Bs, sz, Place, word_had, value_in, tells, Besides, slot_out, slot_in, emptied}
+use Rattle.demi_buf.proofs.Memory.{Cr, Bs, sz, word_had, value_in, tells, Besides, slot_out, slot_in, emptied}
 use Rattle.demi_buf.specs.contracts.cells.Cells.write.Key.{name as #self}
 use Rattle.demi_buf.proofs.cells.Cells.write.Statement as stated
 use Rattle.demi_buf.proofs.cells.Cells.write.Code as code

@@ -1,13 +1,13 @@
 -- `located` reads the place off the token. Assumes `Logic`.
 use Rattle.std.proofs.Common.{◌≡◌, List, [], ◌∷◌, ◌++◌, refl, ◌∙◌}
 use seplogic.Ra.Ura.{Ura}
-use mir.Syntax.{Ty, Fn, ty_array}
+use mir.Syntax.{Fn, ty_array}
 use mir.Raw.{raw as bare}
 use mir.Val.{Val, vstruct, vcons, vnil, of_list}
 use base.Logic.{SProp, ent, emp}
 use base.Fml.{Fml, ftrue}
 use prog.Wp.{Env, WpFn}
-use contract.Monad.{fact, fact_i, fact_use}
+use contract.Monad.{fact, fact_i}
 use contract.Running.{tables}
 use types.Logic.{Logic, sem}
 use types.Kit.{‵, raw, ◌⊛◌, prop, ◌$◌, ◌∵◌, !, qed, by, move, drop, use0, split, regoal, fsplit, fjoin}
