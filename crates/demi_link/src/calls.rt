@@ -1,5 +1,5 @@
 //! The calls that a link makes.
-ghost use Rattle.std.specs.Prelude.{◌≡◌, ◌≢◌, ℕ, ◌+◌, ◌-◌, ◌<◌, ◌≤◌, ◌++◌, List, [], ◌∷◌, IfErr, IfOk, IfNone, IfSome, length, replicate};
+ghost use Rattle.std.specs.Prelude.{◌≡◌, ◌≢◌, ℕ, ◌+◌, ◌-◌, ◌<◌, ◌≤◌, ◌++◌, List, [], ◌∷◌, IfErr, IfOk, IfNone, IfSome, None, Some, length, replicate};
 ghost use Rattle.demi_heap.specs.Seen.{half_with, new_half};
 ghost use Rattle.demi_port_core.specs.declared.place.QToken.{QToken};
 ghost use Rattle.demi_sga.specs.Arrays.{AreOf, SameSlots, class_for, zeroed};
@@ -123,10 +123,11 @@ pub trait Calls: Scanner {
         ensures begun { Self.begun self.new ≡ Self.begun self.old }
         ensures goes { Self.goes link self.old self.new };
 
-    /// Draws the worker's next sequence number for the link's request, and asks nothing. `None` exactly where there is none
-    /// left of 64 bits.
+    /// Draws the worker's next sequence number for the link's request, which is none of the store's, and asks nothing. `None`
+    /// exactly where there is none left of 64 bits.
     fn draw(&mut self, link: u16, talk: &Mark<Talk>) -> Option<u64>
-        requires { of_link link (sight self.old link).draws ≡ numbered link 0 talk.now.value.kept.drawn }
+        requires own { of_link link (sight self.old link).draws ≡ numbered link 0 talk.now.value.kept.drawn }
+        requires plain { ask_of link (length talk.now.value.kept.drawn) talk.now.value.request ≡ None }
         ensures some { IfSome result (λ n. (n ≡ length (sight self.old link).draws + 1) × (n ≤ 18446744073709551615) × (sight self.new link ≡ record (sight self.old link) { draws = (sight self.old link).draws ++ record { link = link; index = length talk.now.value.kept.drawn; request = talk.now.value.request } ∷ [] }) × (events self.new ≡ events self.old)) }
         ensures none { IfNone result ((sight self.new link ≡ sight self.old link) × Adds (events self.old) (events self.new) NumbersUsedUp × (18446744073709551615 ≤ length (sight self.old link).draws)) }
         ensures seen { Self.seen self.new ≡ Self.seen self.old }

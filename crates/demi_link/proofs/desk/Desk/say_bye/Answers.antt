@@ -15,6 +15,9 @@ use Rattle.demi_link.proofs.Arriving.{caused_by}
 use Rattle.demi_link.proofs.Asks.{desk_drawn, plain_next}
 use Rattle.demi_link.proofs.desk.Desk.say_bye.Goals as goal
 
+pub draw-requires-clause-plain : goal.draw-requires-clause-plain
+draw-requires-clause-plain g c = let d = desk_of c.args.self.now in ap (λ (x : Asked). ask_of d.link (length d.talk.kept.drawn) x) c.requires.0.fits.agrees.0.0
+
 pub push-requires : goal.push-requires
 push-requires g c =
     let d = desk_of c.args.self.now in
