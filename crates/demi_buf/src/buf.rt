@@ -3,7 +3,7 @@ ghost use Rattle.std.specs.Borrow.{Lends, Array, sem, u8};
 ghost use denote.RawPtr.{block_ptr, block_of};
 ghost use Rattle.demi_buf.specs.Bufs.{size_of, with_bytes, number_of, fresh, HasDeed};
 ghost use Rattle.demi_buf.specs.Places.{IsRun, somes, cleared};
-ghost use Rattle.demi_buf.specs.Names.{place_number};
+ghost use Rattle.demi_buf.specs.Names.{place_block};
 ghost use Rattle.demi_buf.specs.contracts.buf.Buf.{the_row};
 
 use crate::cells::{Base, Cells, Deed};
@@ -12,11 +12,10 @@ use std::alloc::Global;
 use std::marker::Model;
 use std::mem::ManuallyDrop;
 
-/// Which superblock a buffer is of. While a buffer of it is there, no other superblock has its place.
+/// In which memory a superblock lies. While a buffer of it is there, no other superblock lies there.
 #[derive(Clone, Copy)]
 pub struct Place {
     base: Base<u8>,
-    class: Class,
 }
 
 /// One buffer of a superblock. It must be spent: by `Block::join` with all others of its carve, or by `lose`.
@@ -83,14 +82,11 @@ impl Buf {
         self.class
     }
 
-    /// Which superblock it is of.
+    /// Where its superblock lies, which is known by that and by the class.
     pub fn place(&self) -> Place
-        ensures { place_number result ≡ self.now.block }
+        ensures { number_of (place_block result) self.now.class ≡ self.now.block }
     {
-        Place {
-            base: self.base,
-            class: self.class,
-        }
+        Place { base: self.base }
     }
 
     /// In bytes, at most the class's size.

@@ -1,4 +1,5 @@
-//! A block of memory, which is cut into owned extents: rows of places, each of which holds a value or none.
+//! A block of memory, which is cut into owned extents: rows of places, each of which holds a value or none. All functions
+//! with a pointer that is followed are here.
 ghost use Rattle.std.specs.Prelude.{◌≡◌, ℕ, ◌+◌, ◌*◌, ◌^◌, ◌<◌, ◌≤◌, ◌++◌, List, Option, Some, None, map, length, take, drop, replicate, slice_set, IfOk, ⊤};
 ghost use Rattle.std.specs.Borrow.{sem};
 ghost use Rattle.std.specs.Mem.{type_size};

@@ -27,12 +27,18 @@ fn lay_down(
 {
     let _ = counts;
     let count = bufs.len() as u32;
+    let class_of = bufs[0].class();
     let place = bufs[0].place();
     for _ in 0..count {
         let buf = bufs.take_last();
         row.push_reserved(Some(buf));
     }
-    carves.push_reserved(Carve { count, place, bufs });
+    carves.push_reserved(Carve {
+        count,
+        class: class_of,
+        place,
+        bufs,
+    });
 }
 
 // One superblock more, for slots of the class.
@@ -118,6 +124,7 @@ fn take_back(carves: &Vec<Carve>, row: &mut Vec<Option<Buf>>, carve: Carve)
     let _ = carves;
     let Carve {
         count,
+        class: _,
         place: _,
         mut bufs,
     } = carve;

@@ -132,6 +132,7 @@ fn join_block(closed: &mut Ended, end: u32, carve: Carve)
 {
     let Carve {
         count,
+        class: _,
         place: _,
         mut bufs,
     } = carve;
@@ -152,6 +153,7 @@ fn give_up(closed: &mut Ended, end: u32, carve: Carve)
 {
     let Carve {
         count,
+        class: _,
         place: _,
         bufs,
     } = carve;

@@ -14,7 +14,7 @@ use crate::pass::HeapPass;
 use crate::steps::deal_one;
 use crate::table::{HeapSeat, Slots};
 use atomic_table::{Refused, Table};
-use demi_buf::Buf;
+use demi_buf::{BLOCK_LIMIT, Buf};
 use demi_core::NoMemory;
 use std::alloc::Global;
 
@@ -53,8 +53,17 @@ fn build(alloc: Global, counts: Counts, passes: u32) -> Result<(Heap, HeapSeat),
     requires passes { 1 ≤ passes }
     ensures { IfOk result (λ r. IsShape r.0.shape counts passes × (r.1.table_id ≡ r.0.table) × (r.1.me ≡ (first_view r.0.shape, []))) }
 {
-    let mut carves: Vec<Carve> = Vec::new(alloc);
-    let mut row: Vec<Option<Buf>> = Vec::new(alloc);
+    let blocks = counts.small.div_ceil(BLOCK_LIMIT)
+        + counts.page.div_ceil(BLOCK_LIMIT)
+        + counts.large.div_ceil(BLOCK_LIMIT);
+    let Ok(mut carves) = Vec::<Carve>::with_capacity(alloc, blocks as usize) else {
+        return Err(NoMemory);
+    };
+    let slots = counts.small + counts.page + counts.large;
+    let Ok(mut row) = Vec::<Option<Buf>>::with_capacity(alloc, slots as usize) else {
+        carves.destroy_empty();
+        return Err(NoMemory);
+    };
     match carve_all(alloc, &mut carves, &mut row, &counts) {
         Ok(()) => lay(
             alloc,

@@ -1,6 +1,6 @@
 use Rattle.std.proofs.Common.{◌≡◌, ℕ, ◌+◌, ◌-◌, ◌<◌, List, [], ◌∷◌, ◌++◌, length, get_or, sym, ap, ◌∙◌, subst, arith}
-use Rattle.demi_buf.specs.Bufs.{BufValue, carved, superblock_of}
-use Rattle.demi_buf.specs.Names.{place_number}
+use Rattle.demi_buf.specs.Bufs.{BufValue, carved, number_of, superblock_of}
+use Rattle.demi_buf.specs.Names.{place_block}
 use Rattle.demi_heap_core.specs.declared.shape.Superblock.{Superblock}
 use Rattle.demi_heap.specs.Laid.{counts_shape, EachLies, IsLaid}
 use Rattle.demi_heap.proofs.Laying.{total_snoc, lies_wider, lay_next}
@@ -39,9 +39,11 @@ loop-preserved c = let n : ℕ = c.len-count.result in let p = superblock_of c.a
 
 pub returns-clause-laid : goal.returns-clause-laid
 returns-clause-laid c = let n : ℕ = c.len-count.result in let rs = c.args.carves.now.items in
-    let before = c.loop.invariant in let r : Superblock = record { place = place_number c.place-place.result; count = n } in
+    let before = c.loop.invariant in let r : Superblock = record { place = number_of (place_block c.place-place.result) c.class-class_of.result; count = n } in
     let lens = c.args.bufs.ok.0 in let low = c.requires.new.2 in let some_one : 0 < length c.args.bufs.items = omega arith in
-    let is : superblock_of c.args.bufs.items ≡ place_number c.place-place.result = first_of c.args.bufs.items c.index.result.now some_one c.index.ensures ∙ sym c.place-place.ensures in
+    let is : superblock_of c.args.bufs.items ≡ number_of (place_block c.place-place.result) c.class-class_of.result = 
+        first_of c.args.bufs.items c.index-2.result.now some_one c.index-2.ensures ∙ (sym c.place-place.ensures
+        ∙ ap (number_of (place_block c.place-place.result)) (sym (c.class-class_of.ensures ∙ ap (λ (b : BufValue). b.class) (same_first c.args.bufs.items c.index.result.now c.index-2.result.now some_one c.index.ensures c.index-2.ensures)))) in
     let long = before.3 in let wide = c.requires.laid.0.wide in let t = total_snoc rs r in (
       subst (λ (xs : List Superblock). IsLaid xs c.loop.row.items) (sym c.push_reserved-2.ensures.items) record { wide = omega arith; each = subst (λ (q : ℕ). EachLies (rs ++ record { place = q; count = n } ∷ []) c.loop.row.items) is before.5 },
       before.6,
@@ -50,3 +52,7 @@ returns-clause-laid c = let n : ℕ = c.len-count.result in let rs = c.args.carv
     first_of : (bs : List BufValue) (b : BufValue) → 0 < length bs → b ≡ get_or bs 0 b → superblock_of bs ≡ b.block
     first_of [] b lt e = absurd (omega arith)
     first_of (x ∷ bs) b lt e = ap (λ (y : BufValue). y.block) (sym e)
+
+    same_first : (bs : List BufValue) (a b : BufValue) → 0 < length bs → a ≡ get_or bs 0 a → b ≡ get_or bs 0 b → a ≡ b
+    same_first [] a b lt e f = absurd (omega arith)
+    same_first (x ∷ bs) a b lt e f = e ∙ sym f
