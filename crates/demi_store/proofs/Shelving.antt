@@ -6,7 +6,7 @@ use Rattle.std.specs.Cmp.Lexicographic.{bytes_decides}
 use Rattle.std.specs.Io.KnownBytes.{append_known}
 use Rattle.std.proofs.Math.Seq.{take-append_seam, drop-append_seam}
 use Rattle.std.proofs.lemmas.List.{drop-drop, length-replicate, take_all}
-use Rattle.demi_core.specs.Outside.{GrowsByFront, Rose}
+use Rattle.demi_core.specs.Outside.{GrowsByFront}
 use Rattle.demi_spec.specs.LogText.{entry}
 use Rattle.demi_spec.specs.Record.{Record, IsRecord, payload}
 use Rattle.demi_spec.specs.Store as store
@@ -177,17 +177,17 @@ module _ {D : Type 0} (bytes : D → Option (List ℕ)) where
         → Keeps bytes log index limit fault records → log.staged ≡ payload r → fault' ≡ Some place → ((k : List ℕ) → entry_of index1 k ≡ entry_of index k)
         → Torn bytes held faults appends log log' → Keeps bytes log' index1 limit fault' records × Fails bytes held faults appends log.disk log'.disk r
     failed log log' index index1 limit fault fault' place records r k text broken entries1 t = (
-          record {
-            holds = t.holds (map payload records) k.holds;
-            fits = k.fits;
-            entries = λ other. entries1 other ∙ k.entries other;
-            kept = ap (λ (l : Logged D). l.lost) t.now ∙ k.kept;
-            whole = λ none. absurd (let e : Some place ≡ None = sym broken ∙ none in cc);
-            limit_fits = omega (arith, k.limit_fits, ap (λ (l : Logged D). l.limit) t.now);
-          },
-          record {
-            grown = subst (λ (l : List ℕ). GrowsByFront (bytes log.disk) (bytes log'.disk) (held log.disk) (held log'.disk) (entry l)) text t.grown;
-            call = subst (λ (l : List ℕ). appends log.disk (entry l) false log'.disk) text t.call;
-            cause = t.cause;
-          },
-        )
+      record {
+        holds = t.holds (map payload records) k.holds;
+        fits = k.fits;
+        entries = λ other. entries1 other ∙ k.entries other;
+        kept = ap (λ (l : Logged D). l.lost) t.now ∙ k.kept;
+        whole = λ none. absurd (let e : Some place ≡ None = sym broken ∙ none in cc);
+        limit_fits = omega (arith, k.limit_fits, ap (λ (l : Logged D). l.limit) t.now);
+      },
+      record {
+        grown = subst (λ (l : List ℕ). GrowsByFront (bytes log.disk) (bytes log'.disk) (held log.disk) (held log'.disk) (entry l)) text t.grown;
+        call = subst (λ (l : List ℕ). appends log.disk (entry l) false log'.disk) text t.call;
+        cause = t.cause;
+      },
+    )

@@ -66,7 +66,7 @@ returns-clause-put g c = λ r is.
     let t = the_draft d.shelf.log.staged c.self.invariant.draft_is r same in
     let old : core_of d.shelf.log d.records.value d.shelf.limit (record_of d.shelf.log.staged) d.shelf.fault ≡ c.args.self.now = c.self.view_is in
     elim c.match-answer.branch [
-      in-Stored w ↦
+      | in-Stored w ↦
           let v = w.in-Stored.field-0 in
           let new : core_of n.log w.both.result.value n.limit (record_of []) n.fault ≡ c.match-answer.self =
           sym (w.self-is ∙ ap (λ (l : Logged g.row.D.Denot). core_of l w.both.result.value n.limit (record_of l.staged) n.fault) c.unstage.ensures) in
@@ -76,7 +76,7 @@ returns-clause-put g c = λ r is.
           (subst (λ (x : Core g.row.D.Denot). CorePut g.D.Disk.bytes g.D.Disk.held g.D.Disk.faults g.D.Disk.appends x (core_of n.log w.both.result.value n.limit (record_of []) n.fault) c.args.place.0 r (Stored v)) old
           (stored_put g.D.Disk.bytes g.D.Disk.held g.D.Disk.faults g.D.Disk.appends d.shelf.log n.log d.shelf.index n.index d.shelf.limit n.limit d.shelf.fault n.fault d.records.value c.args.place.0 r (record_of d.shelf.log.staged) (record_of [])
           w.both.result.value v c.put-answer.ensures.limit (none_of [] refl) grown (w.in-Stored.ensures.put r t.0 t.1))))
-    | in_default w ↦
+      | in_default w ↦
           let new : core_of n.log d.records.value n.limit (record_of []) n.fault ≡ c.match-answer.self =
           sym (w.self-is ∙ ap (λ (l : Logged g.row.D.Denot). core_of l d.records.value n.limit (record_of l.staged) n.fault) c.unstage.ensures) in
           subst (λ (x : Core g.row.D.Denot). CorePut g.D.Disk.bytes g.D.Disk.held g.D.Disk.faults g.D.Disk.appends c.args.self.now x c.args.place.0 r c.put-answer.result) new
@@ -89,6 +89,6 @@ pub returns-clause-none : goal.returns-clause-none
 returns-clause-none g c =
     let none : record_of c.unstage.new.self.staged ≡ None = none_of c.unstage.new.self.staged (ap (λ (l : Logged g.row.D.Denot). l.staged) c.unstage.ensures) in
     elim c.match-answer.branch [
-      in-Stored w ↦ ap (λ (v : Core g.row.D.Denot). v.begun) w.self-is ∙ none
-    | in_default w ↦ ap (λ (v : Core g.row.D.Denot). v.begun) w.self-is ∙ none
+      | in-Stored w ↦ ap (λ (v : Core g.row.D.Denot). v.begun) w.self-is ∙ none
+      | in_default w ↦ ap (λ (v : Core g.row.D.Denot). v.begun) w.self-is ∙ none
     ]
