@@ -6,7 +6,7 @@ use Rattle.std.specs.Cmp.Lexicographic.{bytes_decides}
 use Rattle.std.specs.Io.KnownBytes.{append_known}
 use Rattle.std.proofs.Math.Seq.{take-append_seam, drop-append_seam}
 use Rattle.std.proofs.lemmas.List.{drop-drop, length-replicate, take_all}
-use Rattle.demi_core.specs.Outside.{GrowsByFront, Rose}
+use Rattle.demi_core.specs.Outside.{GrowsByFront}
 use Rattle.demi_spec.specs.LogText.{entry}
 use Rattle.demi_spec.specs.Record.{Record, IsRecord, payload}
 use Rattle.demi_spec.specs.Store as store
