@@ -4,7 +4,7 @@ use Rattle.std.proofs.Common.{sym, ◌∙◌, ap, arith, subst, suc, inl, inr, a
 use Rattle.demi_port_core.specs.History.{Among, Each, Within}
 use Rattle.demi_port_core.specs.Trails.{StartsWith}
 use Rattle.demi_port_core.proofs.Lists.{among_left, among_right, each_append, each_back, each_front}
-use Rattle.demi_sched.specs.Going.{Differ, names_of}
+use Rattle.demi_sched.specs.Going.{Differ}
 use Rattle.demi_sched.specs.Polling.{Collected}
 use Rattle.demi_sched.specs.declared.held.Held.{Held}
 use Rattle.demi_sched.specs.declared.state.State.TheVariants.{Ended as over}
@@ -107,8 +107,7 @@ module _ (hs left : List (Held LinkValue)) (number : ℕ) (k : LinkValue) (t : C
 
   pub out_among : (n : ℕ) → Among n (held_links hs) ↔ ((n ≡ k.desk.link) ⊎ Among n (held_links left))
   out_among n =
-      let f = held_links t.front in let r = held_links t.back in
-      (
+      let f = held_links t.front in let r = held_links t.back in (
         (λ a. subst (λ ns. (n ≡ k.desk.link) ⊎ Among n ns) (sym are) (among_amid n k.desk.link f r (subst (Among n) were a))),
         (λ a. subst (Among n) (sym were) (amid_among n k.desk.link f r (subst (λ ns. (n ≡ k.desk.link) ⊎ Among n ns) are a))),
       )

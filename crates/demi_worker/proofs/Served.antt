@@ -1,5 +1,5 @@
 -- What is so at last of a link that was served.
-use Rattle.std.specs.Prelude.{◌≡◌, ◌⊎◌, ℕ, List, [], ◌∷◌, refl}
+use Rattle.std.specs.Prelude.{◌⊎◌, ℕ, List, [], ◌∷◌, refl}
 use Rattle.std.proofs.Common.{sym, ◌∙◌, subst, inl, inr}
 use Rattle.demi_port_core.specs.History.{Each}
 use Rattle.demi_served.specs.Keeps.{LinkKeeps, WorkerKeeps}
@@ -35,7 +35,7 @@ module _ (ports number : ℕ) (cause : Cause) (did : TalkValue) (had : Sight) (v
     pub served_keeps : LinkKeeps s.base (worker_of s) number did.kept
     served_keeps =
         let then = subst (λ (k : TalkValue). LinkKeeps had.base (worker_of had) number k.kept) v.talk
-            (subst (λ (n : ℕ). LinkKeeps had.base (worker_of had) n v.desk.talk.kept) v.link (kept_then v.over)) in
+        (subst (λ (n : ℕ). LinkKeeps had.base (worker_of had) n v.desk.talk.kept) v.link (kept_then v.over)) in
         subst (λ (b : StoreBasis). LinkKeeps b (worker_of s) number did.kept) (sym l.beside.base) (link_beside had.base (worker_of had) (worker_of s) number did.kept then l.beside.worker)
 
     pub served_worker : WorkerKeeps (worker_of s)

@@ -1,8 +1,8 @@
 -- How a worker stands after each of its steps.
-use Rattle.std.specs.Prelude.{◌≡◌, ◌≢◌, ◌↔◌, ◌⊎◌, ℕ, ◌+◌, ◌<◌, ◌≤◌, Bool, false, cond, List, [], ◌∷◌, ◌++◌, length, refl}
+use Rattle.std.specs.Prelude.{◌≡◌, ◌≢◌, ◌↔◌, ◌⊎◌, ℕ, ◌+◌, ◌<◌, Bool, false, cond, List, [], ◌∷◌, ◌++◌, length, refl}
 use Rattle.std.proofs.Common.{sym, ◌∙◌, ap, arith, subst, inl}
 use Rattle.demi_port_core.specs.History.{Among, Each}
-use Rattle.demi_port_core.proofs.Lists.{each_append, each_back, each_both, each_front, each_more, each_snoc}
+use Rattle.demi_port_core.proofs.Lists.{each_back, each_both, each_front, each_more, each_snoc}
 use Rattle.demi_sched.specs.Holding.{SchedulerValue}
 use Rattle.demi_sched.specs.Polling.{Collected}
 use Rattle.demi_sched.specs.Waiting.{has_ended, live}
@@ -15,7 +15,7 @@ use Rattle.demi_link.specs.Talks.{TalkValue}
 use Rattle.demi_link.specs.declared.phase.Cause.{Cause}
 use Rattle.demi_link.specs.declared.phase.Phase.TheVariants.{Over}
 use Rattle.demi_worker.specs.Ending.{IsServed, Lists}
-use Rattle.demi_worker.specs.Standing.{HasEnd, HasStopped, IsFit, LeavesOthers, SameLinks, Stands, ended_links, held_links, taken_in}
+use Rattle.demi_worker.specs.Standing.{IsFit, LeavesOthers, SameLinks, Stands, ended_links, held_links, taken_in}
 use Rattle.demi_worker.specs.Stopping.{IsStopped}
 use Rattle.demi_worker.specs.declared.ended.Ended.{Ended}
 use Rattle.demi_worker.proofs.Links.{held_count, held_next, length_next, moved_out, one_more_ended, one_more_held, others_of, out_among, out_count, out_each, out_names}
@@ -100,7 +100,7 @@ module _ (ports : ℕ) (a b : ℕ → Sight) (es after : List Ended) (n : ℕ) (
       → Stands ports a s es → Stands ports b t after
   stands_ended s t number k is c same free st =
       let apart = each_more (λ link. Each (λ m. m ≢ link) (held_links s.held)) (λ link. (n ≢ link) × Each (λ m. m ≢ link) (held_links t.held)) (ended_links es)
-          (λ link e. let o = out_names s.held t.held number k c (λ m. m ≢ link) e in (subst (λ m. m ≢ link) is o.0, o.1)) st.apart in
+      (λ link e. let o = out_names s.held t.held number k c (λ m. m ≢ link) e in (subst (λ m. m ≢ link) is o.0, o.1)) st.apart in
       let others = each_more (λ link. (n ≢ link) × Each (λ m. m ≢ link) (held_links t.held)) (λ m. m ≢ n) (ended_links es) (λ link e. λ q. e.0 (sym q)) apart in
       let left = each_more (λ link. (n ≢ link) × Each (λ m. m ≢ link) (held_links t.held)) (λ link. Each (λ m. m ≢ link) (held_links t.held)) (ended_links es) (λ link e. e.1) apart in
       let fits = (out_each s.held t.held number k c (IsFit ports a) st.fits).1 in

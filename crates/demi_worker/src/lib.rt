@@ -22,8 +22,6 @@ mod worker;
 
 pub use ended::Ended;
 pub use had::Had;
-pub use laws::{
-    a_left_link_stays_new, a_served_link_keeps_its_replies, calls_of_anyone_leave_all,
-};
+pub use laws::{a_left_link_stays_new, a_served_link_keeps_its_replies, calls_of_anyone_leave_all};
 pub use serves::Serves;
 pub use worker::Worker;

@@ -10,7 +10,7 @@ pub returns-clause-links : goal.returns-clause-links
 returns-clause-links g c =
     let made = c.make-worker.result in let one = c.take_in.new.self in let two = c.take_in-2.new.self in let end = c.serve.new.self in
     let none = subst (λ (hs : List (Held LinkValue)). SameLinks (taken_in hs made.ended.items) []) (sym (ap (λ s. s.held) c.make-worker.ensures.scheduler ∙ c.requires.none.0))
-        (subst (λ (es : List Ended). SameLinks (taken_in [] es) []) (sym c.make-worker.ensures.ended) (same_self [])) in
+    (subst (λ (es : List Ended). SameLinks (taken_in [] es) []) (sym c.make-worker.ensures.ended) (same_self [])) in
     let first = same_next (taken_in one.scheduler.held one.ended.items) (taken_in made.scheduler.held made.ended.items) [] c.args.links.0 c.take_in.ensures.links none in
     let both = same_next (taken_in two.scheduler.held two.ended.items) (taken_in one.scheduler.held one.ended.items) (c.args.links.0 ∷ []) c.args.links.1 c.take_in-2.ensures.links first in
     let all = same_on (ended_links end.ended.items) (taken_in two.scheduler.held two.ended.items) (c.args.links.1 ∷ c.args.links.0 ∷ []) c.serve.ensures.links both in

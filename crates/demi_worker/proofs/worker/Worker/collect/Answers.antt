@@ -20,9 +20,9 @@ returns-clause-stands g c =
     let others = leaves_one g.C.Scanner.goes sight g.met.C.Calls.goes_beside end.link was.context now.context e.goes in
     let free = subst (λ m. Each (λ n. n ≢ m) (held_links left.held)) (sym f.link) one.ensures.name in
     let stands = stands_ended (ports was.context) (sight was.context) (sight now.context) was.ended.items now.ended.items end.link end.cause end.talk.value e.listed e.stopped others served
-        was.scheduler left one._number k (sym f.link) one.ensures.some one.ensures.same free c.requires in
+    was.scheduler left one._number k (sym f.link) one.ensures.some one.ensures.same free c.requires in
     stands_as (ports was.context) (ports now.context) (sight now.context) left now.scheduler now.ended.items now.ended.items
-        (g.met.C.Scanner.goes_ports end.link was.context now.context e.goes) e.scheduler refl stands
+    (g.met.C.Scanner.goes_ports end.link was.context now.context e.goes) e.scheduler refl stands
 
 pub returns-clause-went : goal.returns-clause-went
 returns-clause-went g c =

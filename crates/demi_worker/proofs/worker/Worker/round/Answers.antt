@@ -19,17 +19,17 @@ returns-clause-stands g c =
     let way = within_round goes link_of (g.C.Scanner.seen r.new.cx) held was.context r.new.cx e.goes in
     let others = leaves_within goes sight beside (held_links held) was.context r.new.cx way in
     let polled = stands_polled (ports was.context) (sight was.context) (sight r.new.cx) was.scheduler r.new.self es others e.same e.names
-        (stands_fits (ports was.context) (ports r.new.cx) (sight r.new.cx) r.new.self.held e.ports e.fits) c.requires in
+    (stands_fits (ports was.context) (ports r.new.cx) (sight r.new.cx) r.new.self.held e.ports e.fits) c.requires in
     let rested = stands_beside (ports was.context) (sight r.new.cx) (sight now.context) r.new.self es (leaves_all goes sight beside r.new.cx now.context f.goes) polled in
     stands_as (ports was.context) (ports now.context) (sight now.context) r.new.self now.scheduler es now.ended.items
-        (g.met.C.Scanner.goes_ports 0 r.new.cx now.context (f.goes 0) ∙ e.ports) f.scheduler (ap (λ v. v.items) f.ended) rested
+    (g.met.C.Scanner.goes_ports 0 r.new.cx now.context (f.goes 0) ∙ e.ports) f.scheduler (ap (λ v. v.items) f.ended) rested
 
 pub returns-clause-went : goal.returns-clause-went
 returns-clause-went g c =
     let was = c.args.self.now in let r = c.round-round in let e = r.ensures in let now = c.rest.new.self in let f = c.rest.ensures in
     let goes = g.C.Scanner.goes in let held = was.scheduler.held in let names = held_links held in
     let way = within_on goes g.met.C.Scanner.goes_on names was.context r.new.cx now.context
-        (within_round goes link_of (g.C.Scanner.seen r.new.cx) held was.context r.new.cx e.goes)
-        (by_all goes names r.new.cx now.context f.goes) in
+    (within_round goes link_of (g.C.Scanner.seen r.new.cx) held was.context r.new.cx e.goes)
+    (by_all goes names r.new.cx now.context f.goes) in
     subst (λ (s : SchedulerValue LinkValue). WentOn goes was.context now.context was.scheduler s was.ended.items now.ended.items) (sym f.scheduler)
-        (went_round goes was.context now.context was.scheduler r.new.self was.ended.items now.ended.items e.names e.same (ap (λ v. v.items) f.ended) way)
+    (went_round goes was.context now.context was.scheduler r.new.self was.ended.items now.ended.items e.names e.same (ap (λ v. v.items) f.ended) way)

@@ -1,15 +1,13 @@
-use Rattle.std.proofs.Common.{◌≡◌, ◌≢◌, ◌↔◌, ◌⊎◌, ◌∙◌, ◌≤◌, ◌++◌, ◌∷◌, [], ap, inl, inr, refl, rules, subst, sym}
+use Rattle.std.proofs.Common.{◌≡◌, ◌≢◌, ◌↔◌, ◌⊎◌, ◌∙◌, ◌≤◌, ◌++◌, ◌∷◌, [], ap, inl, refl, rules, subst, sym}
 use Rattle.demi_port_core.specs.History.{Among, Each}
 use Rattle.demi_port_core.proofs.Lists.{each_front}
 use Rattle.demi_sched.specs.declared.held.Held.{Held}
 use Rattle.demi_sched.specs.declared.state.State.TheVariants.{Due}
-use Rattle.demi_link.specs.Ends.{new_desk}
 use Rattle.demi_link.specs.Fitting.{Fits}
 use Rattle.demi_link.specs.Linked.{LinkValue}
 use Rattle.demi_link.specs.Talks.{new_talk}
 use Rattle.demi_link.specs.declared.phase.Cause.TheVariants.{NoMemory}
 use Rattle.demi_link.proofs.Ended.{fresh_fits}
-use Rattle.demi_worker.specs.Ending.{IsServed}
 use Rattle.demi_worker.specs.Standing.{Stands, ended_links, held_links, taken_in}
 use Rattle.demi_worker.proofs.Leaving.{leaves_one}
 use Rattle.demi_worker.proofs.Links.{held_next, link_of, others_of}
@@ -44,7 +42,7 @@ returns-in-Ok-clause-links g c = λ n.
     let before = taken_in was.scheduler.held was.ended.items in
     let h : Held LinkValue = record { number = was.scheduler.added; coroutine = c.in-Ok.made; state = Due } in
     subst (λ es. Among n (taken_in now.scheduler.held es) ↔ ((n ≡ c.args.link) ⊎ Among n before)) (sym (ap (λ v. v.items) c.hold.ensures.ended))
-        (subst (λ m. Among n (taken_in now.scheduler.held was.ended.items) ↔ ((n ≡ m) ⊎ Among n before)) (ap link_of c.in-Ok.ensures) (links_held was.scheduler now.scheduler was.ended.items h n c.hold.ensures.held))
+    (subst (λ m. Among n (taken_in now.scheduler.held was.ended.items) ↔ ((n ≡ m) ⊎ Among n before)) (ap link_of c.in-Ok.ensures) (links_held was.scheduler now.scheduler was.ended.items h n c.hold.ensures.held))
 
 pub returns-in-Ok-clause-held : goal.returns-in-Ok-clause-held
 returns-in-Ok-clause-held g c =
@@ -67,4 +65,4 @@ pub returns-in-Err-clause-links : goal.returns-in-Err-clause-links
 returns-in-Err-clause-links g c = λ n.
     let was = c.args.self.now in let now = c.refuse.new.self in let link = c.args.link in
     subst (λ s. Among n (taken_in s.held now.ended.items) ↔ ((n ≡ link) ⊎ Among n (taken_in was.scheduler.held was.ended.items))) (sym c.refuse.ensures.scheduler)
-        (links_refused was.ended.items now.ended.items link NoMemory (new_talk was.number) (g.C.Calls.sight was.context link) c.refuse.ensures.listed was.scheduler n)
+    (links_refused was.ended.items now.ended.items link NoMemory (new_talk was.number) (g.C.Calls.sight was.context link) c.refuse.ensures.listed was.scheduler n)
