@@ -1,8 +1,7 @@
 -- What others of a worker leave of what it has for a link, step by step.
-use Rattle.std.specs.Prelude.{◌≡◌, ◌≢◌, ℕ, suc, List, [], ◌∷◌, ◌++◌, refl}
+use Rattle.std.specs.Prelude.{◌≢◌, ℕ, suc, List, [], ◌∷◌, ◌++◌, refl}
 use Rattle.std.specs.List.{AllByRecursion}
 use Rattle.std.proofs.Common.{sym, ◌∙◌, ap, arith, subst}
-use Rattle.demi_port_core.specs.History.{Each}
 use Rattle.demi_sched.specs.Going.{GoesWithin}
 use Rattle.demi_sched.proofs.Names.{stays_within}
 use Rattle.demi_streamq.specs.Receiving.{RxAdmits}
@@ -16,7 +15,6 @@ use Rattle.demi_streamq.specs.declared.tx_op.TxOp.TheVariants as sending
 use Rattle.demi_streamq.specs.declared.tx_out.TxOut.{TxOut}
 use Rattle.demi_served.specs.Keeps.{Draw}
 use Rattle.demi_served.proofs.Beside.{beside_none, beside_on}
-use Rattle.demi_link.specs.Linked.{IsFresh}
 use Rattle.demi_link.specs.Sights.{LeavesBe, Side, Sight, worker_of}
 use Rattle.demi_worker.specs.Ending.{IsNew}
 use Rattle.demi_worker.specs.Standing.{LeavesOthers}

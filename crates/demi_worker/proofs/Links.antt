@@ -4,7 +4,7 @@ use Rattle.std.proofs.Common.{sym, ◌∙◌, ap, arith, subst, suc, inl, inr, a
 use Rattle.demi_port_core.specs.History.{Among, Each, Within}
 use Rattle.demi_port_core.specs.Trails.{StartsWith}
 use Rattle.demi_port_core.proofs.Lists.{among_left, among_right, each_append, each_back, each_front}
-use Rattle.demi_sched.specs.Going.{Differ, names_of}
+use Rattle.demi_sched.specs.Going.{Differ}
 use Rattle.demi_sched.specs.Polling.{Collected}
 use Rattle.demi_sched.specs.declared.held.Held.{Held}
 use Rattle.demi_sched.specs.declared.state.State.TheVariants.{Ended as over}
@@ -54,6 +54,18 @@ same_self xs = λ n. ((λ a. a), (λ a. a))
 
 pub same_on : (xs ys zs : List ℕ) → SameLinks xs ys → SameLinks ys zs → SameLinks xs zs
 same_on xs ys zs f g = λ n. ((λ a. (g n).0 ((f n).0 a)), (λ a. (f n).1 ((g n).1 a)))
+
+-- one more
+pub same_next : (B C cs : List ℕ) (m : ℕ) → ((n : ℕ) → Among n B ↔ ((n ≡ m) ⊎ Among n C)) → SameLinks C cs → SameLinks B (m ∷ cs)
+same_next B C cs m f g = λ n. ((λ a. there n ((f n).0 a)), (λ a. (f n).1 (back n a)))
+  where
+    there : (n : ℕ) → (n ≡ m) ⊎ Among n C → Among n (m ∷ cs)
+    there n (inl e) = inl e
+    there n (inr a) = inr ((g n).0 a)
+
+    back : (n : ℕ) → Among n (m ∷ cs) → (n ≡ m) ⊎ Among n C
+    back n (inl e) = inl e
+    back n (inr a) = inr ((g n).1 a)
 
 pub held_next : (hs : List (Held LinkValue)) (h : Held LinkValue) → held_links (hs ++ h ∷ []) ≡ held_links hs ++ h.coroutine.desk.link ∷ []
 held_next hs h = names_join link_of hs (h ∷ [])

@@ -1,5 +1,5 @@
 -- What is so at last of a link that was served.
-use Rattle.std.specs.Prelude.{◌≡◌, ◌⊎◌, ℕ, List, [], ◌∷◌, refl}
+use Rattle.std.specs.Prelude.{◌⊎◌, ℕ, List, [], ◌∷◌, refl}
 use Rattle.std.proofs.Common.{sym, ◌∙◌, subst, inl, inr}
 use Rattle.demi_port_core.specs.History.{Each}
 use Rattle.demi_served.specs.Keeps.{LinkKeeps, WorkerKeeps}

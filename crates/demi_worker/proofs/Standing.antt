@@ -1,8 +1,8 @@
 -- How a worker stands after each of its steps.
-use Rattle.std.specs.Prelude.{◌≡◌, ◌≢◌, ◌↔◌, ◌⊎◌, ℕ, ◌+◌, ◌<◌, ◌≤◌, Bool, false, cond, List, [], ◌∷◌, ◌++◌, length, refl}
+use Rattle.std.specs.Prelude.{◌≡◌, ◌≢◌, ◌↔◌, ◌⊎◌, ℕ, ◌+◌, ◌<◌, Bool, false, cond, List, [], ◌∷◌, ◌++◌, length, refl}
 use Rattle.std.proofs.Common.{sym, ◌∙◌, ap, arith, subst, inl}
 use Rattle.demi_port_core.specs.History.{Among, Each}
-use Rattle.demi_port_core.proofs.Lists.{each_append, each_back, each_both, each_front, each_more, each_snoc}
+use Rattle.demi_port_core.proofs.Lists.{each_back, each_both, each_front, each_more, each_snoc}
 use Rattle.demi_sched.specs.Holding.{SchedulerValue}
 use Rattle.demi_sched.specs.Polling.{Collected}
 use Rattle.demi_sched.specs.Waiting.{has_ended, live}
@@ -15,7 +15,7 @@ use Rattle.demi_link.specs.Talks.{TalkValue}
 use Rattle.demi_link.specs.declared.phase.Cause.{Cause}
 use Rattle.demi_link.specs.declared.phase.Phase.TheVariants.{Over}
 use Rattle.demi_worker.specs.Ending.{IsServed, Lists}
-use Rattle.demi_worker.specs.Standing.{HasEnd, HasStopped, IsFit, LeavesOthers, SameLinks, Stands, ended_links, held_links, taken_in}
+use Rattle.demi_worker.specs.Standing.{IsFit, LeavesOthers, SameLinks, Stands, ended_links, held_links, taken_in}
 use Rattle.demi_worker.specs.Stopping.{IsStopped}
 use Rattle.demi_worker.specs.declared.ended.Ended.{Ended}
 use Rattle.demi_worker.proofs.Links.{held_count, held_next, length_next, moved_out, one_more_ended, one_more_held, others_of, out_among, out_count, out_each, out_names}

@@ -16,6 +16,8 @@ mod listing;
 mod serves;
 mod serving;
 mod taking;
+#[cfg(test)]
+mod tests;
 mod worker;
 
 pub use ended::Ended;

@@ -3,6 +3,7 @@ ghost use Rattle.std.specs.Prelude.{◌≡◌, ◌≢◌, ℕ, [], false};
 ghost use Rattle.demi_port_core.specs.History.{Each};
 ghost use Rattle.demi_port_core.specs.Trails.{StartsWith};
 ghost use Rattle.demi_sched.specs.Going.{GoesWithin};
+ghost use Rattle.demi_sched.specs.Scanning.{CountsUp};
 ghost use Rattle.demi_sched.specs.Waiting.{has_ended};
 ghost use Rattle.demi_sched.specs.declared.held.Held.{Held};
 ghost use Rattle.demi_link.specs.Linked.{LinkValue};
@@ -48,6 +49,7 @@ impl<C: Serves> Worker<C> {
         ensures stands { Stands (C.ports self.new.context) (C.sight self.new.context) self.new.scheduler self.new.ended.items }
         ensures went { WentOn C.goes self.old.context self.new.context self.old.scheduler self.new.scheduler self.old.ended.items self.new.ended.items }
         ensures number { self.new.number ≡ self.old.number }
+        ensures begun { CountsUp (C.begun self.old.context) (C.begun self.new.context) }
     {
         let round = self.scheduler.round(&mut self.context);
         self.rest(rt, &round);
@@ -57,6 +59,7 @@ impl<C: Serves> Worker<C> {
     // buffer or a token, which other threads will give back.
     fn rest<R: Wait>(&mut self, rt: &R, round: &Round)
         ensures goes { (n : ℕ) → C.goes n self.old.context self.new.context }
+        ensures begun { C.begun self.new.context ≡ C.begun self.old.context }
         ensures scheduler { self.new.scheduler ≡ self.old.scheduler }
         ensures ended { self.new.ended ≡ self.old.ended }
         ensures number { self.new.number ≡ self.old.number }

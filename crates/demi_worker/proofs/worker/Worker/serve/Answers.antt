@@ -1,8 +1,5 @@
-use Rattle.std.proofs.Common.{◌≡◌, rules, subst, sym}
-use Rattle.demi_sched.specs.Holding.{SchedulerValue}
-use Rattle.demi_link.specs.Linked.{LinkValue}
+use Rattle.std.proofs.Common.{rules, subst}
 use Rattle.demi_worker.specs.Standing.{SameLinks, held_links, taken_in}
-use Rattle.demi_worker.specs.Turns.{WentOn}
 use Rattle.demi_worker.proofs.Leaving.{leaves_within, new_beside}
 use Rattle.demi_worker.proofs.Served.{all_kept, all_paid}
 use Rattle.demi_worker.proofs.Standing.{none_held}

@@ -1,15 +1,13 @@
-use Rattle.std.proofs.Common.{◌≡◌, ◌≢◌, ◌↔◌, ◌⊎◌, ◌∙◌, ◌≤◌, ◌++◌, ◌∷◌, [], ap, inl, inr, refl, rules, subst, sym}
+use Rattle.std.proofs.Common.{◌≡◌, ◌≢◌, ◌↔◌, ◌⊎◌, ◌∙◌, ◌≤◌, ◌++◌, ◌∷◌, [], ap, inl, refl, rules, subst, sym}
 use Rattle.demi_port_core.specs.History.{Among, Each}
 use Rattle.demi_port_core.proofs.Lists.{each_front}
 use Rattle.demi_sched.specs.declared.held.Held.{Held}
 use Rattle.demi_sched.specs.declared.state.State.TheVariants.{Due}
-use Rattle.demi_link.specs.Ends.{new_desk}
 use Rattle.demi_link.specs.Fitting.{Fits}
 use Rattle.demi_link.specs.Linked.{LinkValue}
 use Rattle.demi_link.specs.Talks.{new_talk}
 use Rattle.demi_link.specs.declared.phase.Cause.TheVariants.{NoMemory}
 use Rattle.demi_link.proofs.Ended.{fresh_fits}
-use Rattle.demi_worker.specs.Ending.{IsServed}
 use Rattle.demi_worker.specs.Standing.{Stands, ended_links, held_links, taken_in}
 use Rattle.demi_worker.proofs.Leaving.{leaves_one}
 use Rattle.demi_worker.proofs.Links.{held_next, link_of, others_of}
