@@ -17,7 +17,7 @@ pub idle_still : (requests : ℕ) (wires : List Wire) (lines : List Line) → Ar
 idle_still requests wires lines p idle = (p.0, λ i w l low.
     let is = p.1 i w l low in let e = p.0 in let none = idle i l (omega (arith, low, e)) in
     let at = get_or lines i l in let by = get_or wires i w in
-    (subst (λ n. IsOnlyPass by.rx n at.rx) (ap at_rx none) is.0, subst (λ n. IsOnlyPass by.tx n at.tx) (ap at_tx none) is.1.0))
+    (subst (λ n. IsOnlyPass by.rx n at.rx) (ap at_rx none) is.0, subst (λ n. IsOnlyPass by.tx n at.tx) (ap at_tx none) is.1))
 
 pub total_put : {A : Type 0} (f : A → ℕ) (xs : List A) (k : ℕ) (q d : A) → k < length xs → total f (set xs k q) + f (get_or xs k d) ≡ total f xs + f q
 total_put f [] k q d low = absurd (omega (arith, low))
@@ -25,8 +25,7 @@ total_put f (x ∷ xs) zero q d low = omega arith
 total_put f (x ∷ xs) (suc k) q d low = let e = total_put f xs k q d (omega (arith, low)) in omega (arith, e)
 
 -- what the pass owes where one of the links went on
-pub owes_set : {D T B : Type 0} (port : PortId B) (lines : List Line) (i : ℕ) (l m : Line) (p q : PassValue D T B)
-    → OwesAll port lines p → i < length lines → l ≡ get_or lines i l → OwesFor l p m q → OwesAll port (set lines i m) q
-owes_set port lines i l m p q owes low here moves =
-    let t = total_put (λ (x : Line). at_store x.waits) lines i m l low in let e = ap (λ (x : Line). at_store x.waits) here in
-    let b = moves.1.1 in let o = owes.1 in (moves.0 ∙ owes.0, omega (arith, t, e, b, o))
+pub owes_set : {D T B : Type 0} (port : PortId B) (lines : List Line) (i : ℕ) (d m : Line) (p q : PassValue D T B)
+    → OwesAll port lines p → i < length lines → OwesFor (get_or lines i d) p m q → OwesAll port (set lines i m) q
+owes_set port lines i d m p q owes low moves =
+    let t = total_put (λ (x : Line). at_store x.waits) lines i m d low in let b = moves.2 in let o = owes.1 in (moves.0 ∙ owes.0, omega (arith, t, b, o))

@@ -1,5 +1,5 @@
 -- Lists of which each place of the second is so beside the same place of the first.
-use Rattle.std.proofs.Common.{◌≡◌, ℕ, zero, suc, ◌+◌, ◌<◌, ◌≤◌, ◌⊎◌, inl, inr, List, [], ◌∷◌, ◌++◌, length, length-append, get_or, set, refl, ap, sym, subst, ◌∙◌, arith}
+use Rattle.std.proofs.Common.{◌≡◌, ℕ, zero, suc, ◌+◌, ◌<◌, ◌≤◌, ◌⊎◌, inl, inr, All, List, [], ◌∷◌, ◌++◌, length, length-append, get_or, set, refl, ap, sym, subst, ◌∙◌, arith}
 use Rattle.demi_bench.specs.Linking.{ArePaired}
 
 module _ {A : Type 0} where
@@ -29,11 +29,22 @@ module _ {A : Type 0} where
   set_other (x ∷ xs) (suc j) zero q d ne = refl
   set_other (x ∷ xs) (suc j) (suc k) q d ne = set_other xs j k q d (λ e. ne (ap suc e))
 
+  pub same_there : (xs : List A) (k : ℕ) (d e : A) → k < length xs → get_or xs k d ≡ get_or xs k e
+  same_there [] k d e low = absurd (omega (arith, low))
+  same_there (x ∷ xs) zero d e low = refl
+  same_there (x ∷ xs) (suc k) d e low = same_there xs k d e (omega (arith, low))
+
 here_or_not : (j k : ℕ) → (j ≡ k) ⊎ (j ≡ k → ⊥)
 here_or_not zero zero = inl refl
 here_or_not zero (suc k) = inr (λ e. absurd (omega (arith, e)))
 here_or_not (suc j) zero = inr (λ e. absurd (omega (arith, e)))
 here_or_not (suc j) (suc k) = elim (here_or_not j k) [ | inl e ↦ inl (ap suc e) | inr ne ↦ inr (λ e. ne (omega (arith, e))) ]
+
+pub all_push : {A : Type 0} (P : A → Type 0) (xs : List A) (x : A) → All P xs → P x → All P (xs ++ x ∷ [])
+all_push P xs x all p i d low = let e = length-append xs (x ∷ []) in elim (here_or_not i (length xs)) [
+  | inl at ↦ subst (λ j. P (get_or (xs ++ x ∷ []) j d)) (sym at) (subst P (sym (at_end xs x d)) p)
+  | inr ne ↦ let small : i < length xs = omega (arith, ne, low, e) in subst P (sym (before_end xs (x ∷ []) i d small)) (all i d small)
+]
 
 module _ {A B : Type 0} (R : A → B → Type 0) where
   pub paired_none : ArePaired R [] []
