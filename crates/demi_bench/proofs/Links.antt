@@ -14,10 +14,13 @@ idle_total [] idle = refl
 idle_total (x ∷ xs) idle = let a = ap at_store (idle 0 x (omega arith)) in let b = idle_total xs (λ i d low. idle (suc i) d (omega (arith, low))) in omega (arith, a, b)
 
 pub idle_still : (requests : ℕ) (wires : List Wire) (lines : List Line) → ArePaired (IsLineOf requests) wires lines → AreIdle lines → ArePaired IsStill wires lines
-idle_still requests wires lines p idle = (p.0, λ i w l low.
-    let is = p.1 i w l low in let e = p.0 in let none = idle i l (omega (arith, low, e)) in
-    let at = get_or lines i l in let by = get_or wires i w in
-    (subst (λ n. IsOnlyPass by.rx n at.rx) (ap at_rx none) is.0, subst (λ n. IsOnlyPass by.tx n at.tx) (ap at_tx none) is.1))
+idle_still requests wires lines p idle = (
+  p.0,
+  λ i w l low.
+      let is = p.1 i w l low in let e = p.0 in let none = idle i l (omega (arith, low, e)) in
+      let at = get_or lines i l in let by = get_or wires i w in
+      (subst (λ n. IsOnlyPass by.rx n at.rx) (ap at_rx none) is.0, subst (λ n. IsOnlyPass by.tx n at.tx) (ap at_tx none) is.1),
+)
 
 pub total_put : {A : Type 0} (f : A → ℕ) (xs : List A) (k : ℕ) (q d : A) → k < length xs → total f (set xs k q) + f (get_or xs k d) ≡ total f xs + f q
 total_put f [] k q d low = absurd (omega (arith, low))

@@ -38,7 +38,7 @@ here_or_not : (j k : ℕ) → (j ≡ k) ⊎ (j ≡ k → ⊥)
 here_or_not zero zero = inl refl
 here_or_not zero (suc k) = inr (λ e. absurd (omega (arith, e)))
 here_or_not (suc j) zero = inr (λ e. absurd (omega (arith, e)))
-here_or_not (suc j) (suc k) = elim (here_or_not j k) [ | inl e ↦ inl (ap suc e) | inr ne ↦ inr (λ e. ne (omega (arith, e))) ]
+here_or_not (suc j) (suc k) = elim (here_or_not j k) [ inl e ↦ inl (ap suc e) | inr ne ↦ inr (λ e. ne (omega (arith, e))) ]
 
 pub all_push : {A : Type 0} (P : A → Type 0) (xs : List A) (x : A) → All P xs → P x → All P (xs ++ x ∷ [])
 all_push P xs x all p i d low = let e = length-append xs (x ∷ []) in elim (here_or_not i (length xs)) [

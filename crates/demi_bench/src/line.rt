@@ -57,10 +57,7 @@ fn has_come(port: &Port<Doubles>, pass: &mut PortPass<Doubles>, token: Token) ->
 }
 
 /// A new link whose ports ring these bells. `None` is want of memory.
-pub(crate) fn open_link(
-    alloc: Global,
-    bells: &Arc<Bells, Global>,
-) -> Option<(Wire, Line, Pair)>
+pub(crate) fn open_link(alloc: Global, bells: &Arc<Bells, Global>) -> Option<(Wire, Line, Pair)>
     ensures lines { IfSome result (λ r. (n : ℕ) → IsLineOf n r.0 r.1) }
     ensures waits { IfSome result (λ r. r.1.waits ≡ Nothing) }
     ensures pairs { IfSome result (λ r. IsPairOf r.0 r.2) }

@@ -291,7 +291,9 @@ fn measure_sessions<R: Threads + Clock + Wait + Print + Sync>(
     with_rates: bool,
 ) -> io::Result<bool> {
     let Shared {
-        links, requests, ..
+        links,
+        requests,
+        ..
     } = asked;
     let workers = asked.workers.clamp(1, session_loop::MOST_WORKERS);
     let sleeps = Plan {
@@ -310,9 +312,7 @@ fn measure_sessions<R: Threads + Clock + Wait + Print + Sync>(
     let Some(yielded) = session_loop::run(rt, alloc, yields)? else {
         return Ok(false);
     };
-    println!(rt;
-        "links {links}, workers {workers}, requests {requests}: served twice"
-    )?;
+    println!(rt; "links {links}, workers {workers}, requests {requests}: served twice")?;
     if with_rates {
         let sleeping = rate_a_second(requests, links, slept);
         let yielding = rate_a_second(requests, links, yielded);

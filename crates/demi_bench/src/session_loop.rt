@@ -191,7 +191,11 @@ pub fn run<R: Threads + Clock + Wait + Sync>(
     let Ok(teams) = Vec::with_capacity(alloc, plan.workers as usize) else {
         return Ok(None);
     };
-    let Ok((mut port, mut passes, seat)) = Port::<Doubles>::make::<Brand>(alloc, TOKENS, plan.workers) else {
+    let Ok((mut port, mut passes, seat)) = Port::<Doubles>::make::<Brand>(
+        alloc,
+        TOKENS,
+        plan.workers,
+    ) else {
         teams.destroy_empty();
         return Ok(None);
     };
@@ -204,7 +208,16 @@ pub fn run<R: Threads + Clock + Wait + Sync>(
             return Ok(None);
         }
     };
-    let took = run_teams(rt, alloc, &bells, plan, &port, &mut device, &mut passes, teams);
+    let took = run_teams(
+        rt,
+        alloc,
+        &bells,
+        plan,
+        &port,
+        &mut device,
+        &mut passes,
+        teams,
+    );
     let (_engine, seat) = device.parts();
     let _ended = port.close(seat, passes);
     match took {

@@ -133,13 +133,7 @@ fn run_both<R: Threads + Wait + Sync>(
 }
 
 // Both devices of the link at this place.
-fn run_pair<R: Threads + Wait + Sync>(
-    rt: &R,
-    duty: Duty,
-    wires: &[Wire],
-    i: usize,
-    pair: &mut Pair,
-)
+fn run_pair<R: Threads + Wait + Sync>(rt: &R, duty: Duty, wires: &[Wire], i: usize, pair: &mut Pair)
     requires { IsPairAt wires.now i pair.old }
     ensures { IsPairAt wires.now i pair.new }
 {

@@ -23,9 +23,9 @@ pub invariant_of-self : goal.invariant_of-self
 invariant_of-self g c = let s = c.serve.ensures in let is = c.self.invariant in let R = IsLineOf c.self.inside.duty.requests in
     let wires = ap length c.deref.ensures.value in
     let lines : c.self.inside.lines.len ≡ length c.serve.new.lines =
-        let a = s.lines.0 in let b = is.1.0 in let d = ap length c.deref_mut.ensures.value in let e = c.deref_mut.ensures.len in omega (arith, a, b, d, e, wires) in
+    let a = s.lines.0 in let b = is.1.0 in let d = ap length c.deref_mut.ensures.value in let e = c.deref_mut.ensures.len in omega (arith, a, b, d, e, wires) in
     let pairs : c.self.inside.pairs.len ≡ length c.serve.new.pairs =
-        let a = s.pairs.0 in let b = is.3.0 in let d = ap length c.deref_mut-2.ensures.value in let e = c.deref_mut-2.ensures.len in omega (arith, a, b, d, e, wires) in
+    let a = s.pairs.0 in let b = is.3.0 in let d = ap length c.deref_mut-2.ensures.value in let e = c.deref_mut-2.ensures.len in omega (arith, a, b, d, e, wires) in
     let same = whole_back c.self.inside.lines.len c.serve.new.lines c.self.inside.lines.items lines in (
       is.0,
       subst (ArePaired R c.self.inside.wires.items) (sym same) (subst (λ ws. ArePaired R ws c.serve.new.lines) c.deref.ensures.value s.lines),
