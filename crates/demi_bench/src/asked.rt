@@ -11,6 +11,8 @@ pub enum Asked {
     Waits(Case),
     /// How many requests links serve.
     Chains(Case),
+    /// How many requests links serve that share workers and a store.
+    Sessions(Shared),
     /// Rounds of so many coroutines, and how many rounds.
     Rounds(u32, u32),
 }
@@ -21,6 +23,14 @@ pub struct Case {
     pub count: u32,
     pub rounds: u32,
     pub millis: u32,
+}
+
+/// How many links share how many workers, and how many requests of each link.
+#[derive(Clone, Copy)]
+pub struct Shared {
+    pub links: u32,
+    pub workers: u32,
+    pub requests: u32,
 }
 
 fn number(word: Option<String>) -> Option<u32> {
@@ -43,13 +53,20 @@ pub fn read_words(rt: &HostRuntime) -> io::Result<Option<Asked>> {
     if first.as_str() == "round" {
         return Ok(Some(Asked::Rounds(count, rounds)));
     }
-    let Some(millis) = number(words.next()) else {
+    let Some(last) = number(words.next()) else {
         return Ok(None);
     };
+    if first.as_str() == "session" {
+        return Ok(Some(Asked::Sessions(Shared {
+            links: count,
+            workers: rounds,
+            requests: last,
+        })));
+    }
     let case = Case {
         count,
         rounds,
-        millis,
+        millis: last,
     };
     Ok(match first.as_str() {
         "wait" => Some(Asked::Waits(case)),

@@ -20,7 +20,7 @@ use std::thread::{Threads, for_each_mut, join_mut, sleep};
 use std::time::{Clock, Duration, Instant};
 
 /// How many requests come with one pop.
-const BATCH: u32 = 64;
+pub(crate) const BATCH: u32 = 64;
 
 /// What each link is asked.
 #[derive(Clone, Copy)]

@@ -2,6 +2,7 @@
 ghost use Rattle.std.specs.Prelude.{◌≡◌};
 
 use crate::doubler::Doubler;
+use demi_bell::{Bells, Patience};
 use demi_device::Device;
 use demi_port::{Port, PortPass};
 use demi_port_core::Doubles;
@@ -25,6 +26,14 @@ impl Idling {
     {
         match self {
             Idling::Sleeps => port.park(rt, pass),
+            Idling::Yields => yield_now(),
+        }
+    }
+
+    /// For a caller of many ports, who has a patience of its own at their bells.
+    pub fn idle<R: Wait>(self, rt: &R, bells: &Bells, patience: &mut Patience) {
+        match self {
+            Idling::Sleeps => patience.idle(rt, bells),
             Idling::Yields => yield_now(),
         }
     }

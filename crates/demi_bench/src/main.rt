@@ -1,14 +1,15 @@
 //! Claims and frees of the guarded heap, beside the same loop over a free list behind a mutex; operations through one port,
 //! from submit to redeem, beside the same through channels; a pop and a push of one memory queue, while items wait in others;
-//! how long a caller waits that asks one at a time; links that are each served through three ports; and rounds of a scheduler
-//! in which none is woken, beside the scans that they make.
+//! how long a caller waits that asks one at a time; links that are each served through three ports; links that share workers
+//! and a store; and rounds of a scheduler in which none is woken, beside the scans that they make.
 //!
 //! With no word it runs a small fixed case of each and prints counts alone. With a number of rounds it prints the rates of the
 //! first three, as in `demi_bench 2000000`. `demi_bench wait CALLERS OPERATIONS PAUSE` says how long an operation took after a
 //! pause of so many milliseconds, and `demi_bench chain LINKS REQUESTS SILENCE` how many requests the links served, after so
-//! many milliseconds in which all their threads slept, beside the same where threads only yield. `demi_bench round COROUTINES
-//! ROUNDS` says how long a round took, with at most 16 coroutines, and how long its scans alone. A rate is one of this run and
-//! this machine: compare those of one line.
+//! many milliseconds in which all their threads slept, beside the same where threads only yield. `demi_bench session LINKS
+//! WORKERS REQUESTS` says how many requests a second the links served that so many workers share, beside the same where threads
+//! only yield. `demi_bench round COROUTINES ROUNDS` says how long a round took, with at most 16 coroutines, and how long its
+//! scans alone. A rate is one of this run and this machine: compare those of one line.
 #![tactic(auto)]
 
 mod asked;
@@ -18,11 +19,15 @@ mod channels;
 mod doubler;
 mod heap_loop;
 mod idling;
+mod line;
 mod list_loop;
 mod memq_loop;
 mod ping_loop;
 mod port_loop;
 mod round_loop;
+mod session_loop;
+mod session_work;
+mod team;
 mod way;
 
 ghost use Rattle.std.specs.Prelude.{◌*◌, ◌≤◌};
@@ -30,10 +35,11 @@ ghost use Rattle.demi_bench.specs.declared.doubler.TheConstants.{TOKENS};
 ghost use Rattle.demi_bench.specs.declared.port_loop.TheConstants.{IN_FLIGHT};
 ghost use Rattle.demi_bench.specs.declared.round_loop.TheConstants.{MOST};
 
-use crate::asked::{Asked, Case, read_words};
+use crate::asked::{Asked, Case, Shared, read_words};
 use crate::chain_loop::Load;
 use crate::doubler::TOKENS;
 use crate::idling::Idling;
+use crate::session_loop::Plan;
 use std::alloc::Global;
 use std::fmt::{Display, Formatter, Write};
 use std::sync::Wait;
@@ -53,6 +59,13 @@ fn rate(rounds: u32, threads: u32, took: Duration) -> u64 {
     let all = rounds as u64 * threads as u64;
     let millis = u64::try_from(took.as_millis()).unwrap_or(u64::MAX);
     all / millis.max(1)
+}
+
+/// Rounds a second, of all threads.
+fn rate_a_second(rounds: u32, threads: u32, took: Duration) -> u64 {
+    let all = rounds as u64 * threads as u64;
+    let micros = u64::try_from(took.as_micros()).unwrap_or(u64::MAX);
+    all.saturating_mul(1_000_000) / micros.max(1)
 }
 
 /// One rate over another, in hundredths.
@@ -270,6 +283,47 @@ fn measure_chains<R: Threads + Clock + Wait + Print + Sync>(
     Ok(true)
 }
 
+/// Whether there was memory for it.
+fn measure_sessions<R: Threads + Clock + Wait + Print + Sync>(
+    rt: &R,
+    alloc: Global,
+    asked: Shared,
+    with_rates: bool,
+) -> io::Result<bool> {
+    let Shared {
+        links,
+        requests,
+        ..
+    } = asked;
+    let workers = asked.workers.clamp(1, session_loop::MOST_WORKERS);
+    let sleeps = Plan {
+        links,
+        workers,
+        requests,
+        idling: Idling::Sleeps,
+    };
+    let Some(slept) = session_loop::run(rt, alloc, sleeps)? else {
+        return Ok(false);
+    };
+    let yields = Plan {
+        idling: Idling::Yields,
+        ..sleeps
+    };
+    let Some(yielded) = session_loop::run(rt, alloc, yields)? else {
+        return Ok(false);
+    };
+    println!(rt; "links {links}, workers {workers}, requests {requests}: served twice")?;
+    if with_rates {
+        let sleeping = rate_a_second(requests, links, slept);
+        let yielding = rate_a_second(requests, links, yielded);
+        let ratio = Ratio::of(sleeping, yielding);
+        println!(rt;
+            "  requests a second: where threads sleep {sleeping}, where they yield alone {yielding} (ratio {ratio})"
+        )?;
+    }
+    Ok(true)
+}
+
 /// A time in tenths of a nanosecond, of each of so many.
 fn tenths(took: Duration, rounds: u32) -> u64 {
     let nanos = u64::try_from(took.as_nanos()).unwrap_or(u64::MAX);
@@ -349,10 +403,16 @@ fn measure_fixed<R: Threads + Clock + Wait + Print + Sync>(
         rounds: 200,
         millis: 1,
     };
+    let shared = Shared {
+        links: 3,
+        workers: 2,
+        requests: 100,
+    };
     Ok(
         measure_loops(rt, alloc, FIXED_ROUNDS, false)?
             && measure_waits(rt, alloc, waits, false)?
             && measure_chains(rt, alloc, chains, false)?
+            && measure_sessions(rt, alloc, shared, false)?
             && measure_rounds(rt, alloc, round_loop::MOST, FIXED_ROUNDS, false)?,
     )
 }
@@ -365,6 +425,7 @@ fn main(rt: HostRuntime) -> io::Result<()> {
         Some(Asked::Rates(rounds)) => measure_loops(&rt, alloc, rounds, true)?,
         Some(Asked::Waits(case)) => measure_waits(&rt, alloc, case, true)?,
         Some(Asked::Chains(case)) => measure_chains(&rt, alloc, case, true)?,
+        Some(Asked::Sessions(shared)) => measure_sessions(&rt, alloc, shared, true)?,
         Some(Asked::Rounds(coroutines, rounds)) => {
             measure_rounds(&rt, alloc, coroutines, rounds, true)?
         }
