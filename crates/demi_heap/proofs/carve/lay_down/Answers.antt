@@ -41,9 +41,9 @@ pub returns-clause-laid : goal.returns-clause-laid
 returns-clause-laid c = let n : ℕ = c.len-count.result in let rs = c.args.carves.now.items in
     let before = c.loop.invariant in let r : Superblock = record { place = number_of (place_block c.place-place.result) c.class-class_of.result; count = n } in
     let lens = c.args.bufs.ok.0 in let low = c.requires.new.2 in let some_one : 0 < length c.args.bufs.items = omega arith in
-    let is : superblock_of c.args.bufs.items ≡ number_of (place_block c.place-place.result) c.class-class_of.result = 
-        first_of c.args.bufs.items c.index-2.result.now some_one c.index-2.ensures ∙ (sym c.place-place.ensures
-        ∙ ap (number_of (place_block c.place-place.result)) (sym (c.class-class_of.ensures ∙ ap (λ (b : BufValue). b.class) (same_first c.args.bufs.items c.index.result.now c.index-2.result.now some_one c.index.ensures c.index-2.ensures)))) in
+    let is : superblock_of c.args.bufs.items ≡ number_of (place_block c.place-place.result) c.class-class_of.result =
+    first_of c.args.bufs.items c.index-2.result.now some_one c.index-2.ensures ∙ (sym c.place-place.ensures
+    ∙ ap (number_of (place_block c.place-place.result)) (sym (c.class-class_of.ensures ∙ ap (λ (b : BufValue). b.class) (same_first c.args.bufs.items c.index.result.now c.index-2.result.now some_one c.index.ensures c.index-2.ensures)))) in
     let long = before.3 in let wide = c.requires.laid.0.wide in let t = total_snoc rs r in (
       subst (λ (xs : List Superblock). IsLaid xs c.loop.row.items) (sym c.push_reserved-2.ensures.items) record { wide = omega arith; each = subst (λ (q : ℕ). EachLies (rs ++ record { place = q; count = n } ∷ []) c.loop.row.items) is before.5 },
       before.6,
