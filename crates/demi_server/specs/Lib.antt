@@ -1,0 +1,4 @@
+pub mod ContextLaws
+pub mod ContextLedgers
+pub mod ContextPorts
+pub mod ContextSights
