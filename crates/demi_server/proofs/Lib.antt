@@ -2,3 +2,10 @@ mod Entries
 mod EndsTold
 mod LinkCloses
 mod OnlyCloses
+mod ContextKinds
+mod ContextSides
+mod ContextOwing
+mod ContextTries
+mod ContextSubmits
+mod ContextSteps
+mod ContextGoing

@@ -1,0 +1,13 @@
+use Rattle.std.proofs.Common.{◌≡◌, ℕ, ◌<◌, [], length, subst}
+use Rattle.demi_pdpix.specs.Owing.{Owes}
+use Rattle.demi_link.specs.Sights.{nothing_due}
+use Rattle.demi_server.specs.ContextLedgers.{due_of}
+use Rattle.demi_server.specs.ContextSights.{ContextValue}
+use Rattle.demi_server.proofs.ContextSteps.{owes_nothing}
+use Rattle.demi_server.proofs.context.Context.parts.Goals as goal
+
+pub returns-clause-owes : goal.returns-clause-owes
+returns-clause-owes c =
+    let i = c.self.inside in
+    subst (λ (v : ContextValue). ((link : ℕ) → link < length v.demi.rx → due_of v.ledger link ≡ nothing_due) → Owes v.demi v.number [] i.caller) c.self.view_is
+    (owes_nothing i.demi.now i.caller i.number i.links i.drawn i.ledger.value c.self.invariant)
