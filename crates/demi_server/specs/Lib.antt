@@ -1,2 +1,6 @@
+pub mod Building
+pub mod Gathering
+pub mod Outcomes
 pub mod Stations
+pub mod Stopping
 pub mod Working

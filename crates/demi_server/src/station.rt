@@ -1,9 +1,12 @@
 //! A device at its port.
-ghost use Rattle.std.specs.Prelude.{◌≡◌};
+ghost use Rattle.std.specs.Prelude.{◌≡◌, ◌≤◌, [], IfErr, IfOk, length};
+ghost use Rattle.demi_device.specs.Serving.{HasStop, NonePends, places};
+ghost use Rattle.demi_device.specs.Turning.{Agrees, IsFresh};
 
 use crate::job::Job;
 use demi_device::{Device, Engine};
-use demi_port::Port;
+use demi_port::{DeviceSeat, Port};
+use std::alloc::Global;
 use std::marker::Model;
 use std::sync::Wait;
 
@@ -25,20 +28,38 @@ impl<'p, E: Engine> Model for Station<'p, E> {
 }
 
 impl<'p, E: Engine> Station<'p, E> {
-    /// The device at its port.
-    pub fn make(device: Device<E>, port: &'p Port<E::L>) -> Station<'p, E>
-        requires { device.seat.port ≡ port.now }
-        ensures { result ≡ device }
+    /// A device of the engine and the seat, at its port with `c` tokens. Both come back where memory was refused, and for no other cause.
+    pub fn make(
+        alloc: Global,
+        engine: E,
+        seat: DeviceSeat<E::L>,
+        port: &'p Port<E::L>,
+        c: u32,
+    ) -> Result<Station<'p, E>, (E, DeviceSeat<E::L>)>
+        requires port { (seat.port ≡ port.now) × (c ≡ port.now.tokens.slots) }
+        requires base { E.base engine ≡ port.now.key.base }
+        requires room { c ≤ E.room engine }
+        requires fresh { IsFresh seat }
+        requires unserved { (E.served engine ≡ []) × (E.finished engine ≡ []) }
+        ensures made { IfOk result (λ d. (d.engine ≡ engine) × (d.seat ≡ seat)) }
+        ensures back { IfErr result (λ r. (r.0 ≡ engine) × (r.1 ≡ seat)) }
     {
-        Station { device, port }
+        match Device::make(alloc, engine, seat, c) {
+            Ok(device) => Ok(Station { device, port }),
+            Err(back) => Err(back),
+        }
     }
 
-    /// The device alone.
-    pub fn device(self) -> Device<E>
-        ensures { result ≡ self.entry }
+    /// The engine and the seat, where each operation that was fetched was served: after its work, and before.
+    pub fn parts(self) -> (E, DeviceSeat<E::L>)
+        requires { length self.seat.fetched ≡ length (E.served self.engine) }
+        ensures engine { result.0 ≡ self.entry.engine }
+        ensures seat { result.1 ≡ self.entry.seat }
+        ensures agrees { Agrees E.L.told (E.L.admits (E.base result.0)) (E.served result.0) (E.finished result.0) result.1 }
+        ensures ends { HasStop E.L.stops (E.served result.0) → NonePends (length (E.served result.0)) (places (E.finished result.0)) }
     {
         let Station { device, port: _ } = self;
-        device
+        device.parts()
     }
 }
 
@@ -46,6 +67,7 @@ impl<'p, E: Engine> Job for Station<'p, E> {
     ghost use Rattle.std.specs.Thread.{IsSend};
     ghost use Rattle.demi_server.specs.Stations.{HasRun};
 
+    // Its operations and outcomes may go to another thread.
     ghost ready = { λ _. IsSend E.L.Op.row × IsSend E.L.Out.row };
 
     ghost done = { HasRun E.goes E.base E.room E.served E.finished E.L.told E.L.admits E.L.stops };

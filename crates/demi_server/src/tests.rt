@@ -1,0 +1,2 @@
+mod one_link;
+mod stopper;
