@@ -87,3 +87,7 @@ pub seated_here : {D T : Type 0} (heap : HeapId) (ports : List (PortId HeapId)) 
     → seats ≡ left ++ s ∷ [] → AreSeated heap ports tokens seats → k ≡ length left → port ≡ slice_index_or ports k port → IsSeated heap port tokens s
 seated_here heap ports tokens k seats left s port pops are is at =
     subst (λ p. IsSeated heap p tokens s) (ap (λ n. slice_index_or ports n port) (sym is) ∙ sym at) ((last_seated heap ports tokens seats left s pops are).0 port)
+
+-- where none is away
+pub none_away : {A X : Type 0} (f : A → X) (home : List X) (away : List A) → away ≡ [] → home ++ map f (reverse away) ≡ home
+none_away f home away none = let z : home ++ [] ≡ home = search rules in ap (λ l. home ++ map f (reverse l)) none ∙ z

@@ -1,2 +1,4 @@
+pub mod Gathered
 pub mod Homes
 pub mod Outcomes
+pub mod Rewriting

@@ -12,6 +12,7 @@ mod outcome;
 mod parts;
 mod plan;
 mod running;
+mod serving;
 mod station;
 #[cfg(test)]
 mod tests;

@@ -1,16 +1,13 @@
 //! All devices of a session beside its workers.
 ghost use Rattle.std.specs.Prelude.{◌≡◌, ◌<◌, All, length};
 ghost use Rattle.demi_server.specs.Gathering.{AreSpent};
+ghost use Rattle.demi_server.specs.Runs.{MemRan, RxRan, StoreRan, TxRan};
 ghost use Rattle.demi_server.specs.Working.{BothDone, EachBecame, IsCrewDone};
 
 use crate::crew::work_all;
 use crate::devices::Devices;
-use crate::job::{Crew, Job};
-use crate::station::Station;
+use crate::job::Crew;
 use demi_core::{Disk, Sink, Source};
-use demi_memq::MemEngine;
-use demi_store::StoreEngine;
-use demi_streamq::{RxEngine, TxEngine};
 use std::sync::Wait;
 use std::thread::Threads;
 
@@ -26,9 +23,9 @@ pub(crate) fn run_devices<
 >(rt: &R, devices: Devices<'h, I, O, D>, workers: &mut [W]) -> Devices<'h, I, O, D>
     requires some { 0 < length workers.old }
     requires ready { All W.ready workers.old }
-    ensures memory { ⟦<Station<'h, MemEngine<'h>> as Job>⟧.done devices.entry.memory result.memory }
-    ensures store { ⟦<Station<'h, StoreEngine<D>> as Job>⟧.done devices.entry.store result.store }
-    ensures links { EachBecame (BothDone ⟦<Station<'h, RxEngine<'h, I>> as Job>⟧.done ⟦<Station<'h, TxEngine<'h, O>> as Job>⟧.done) devices.entry.links result.links }
+    ensures memory { MemRan devices.entry.memory result.memory }
+    ensures store { StoreRan D.bytes D.held D.faults D.appends D.looks devices.entry.store result.store }
+    ensures links { EachBecame (BothDone (RxRan I.taken I.left I.faults I.reads) (TxRan O.written O.faults)) devices.entry.links result.links }
     ensures workers { IsCrewDone W.done W.finished workers.old workers.new }
     ensures others { (result.service_pass ≡ devices.entry.service_pass) × (result.journal ≡ devices.entry.journal) }
     ensures spent { AreSpent result }

@@ -2,8 +2,8 @@
 ghost use Rattle.std.specs.Prelude.{◌≡◌, ◌≤◌, [], IfErr, IfOk, length};
 ghost use Rattle.demi_device.specs.Serving.{HasStop, NonePends, places};
 ghost use Rattle.demi_device.specs.Turning.{Agrees, IsFresh};
+ghost use Rattle.demi_server.specs.Stations.{HasRun};
 
-use crate::job::Job;
 use demi_device::{Device, Engine};
 use demi_port::{DeviceSeat, Port};
 use std::alloc::Global;
@@ -61,18 +61,11 @@ impl<'p, E: Engine> Station<'p, E> {
         let Station { device, port: _ } = self;
         device.parts()
     }
-}
 
-impl<'p, E: Engine> Job for Station<'p, E> {
-    ghost use Rattle.std.specs.Thread.{IsSend};
-    ghost use Rattle.demi_server.specs.Stations.{HasRun};
-
-    // Its operations and outcomes may go to another thread.
-    ghost ready = { λ _. IsSend E.L.Op.row × IsSend E.L.Out.row };
-
-    ghost done = { HasRun E.goes E.base E.room E.served E.finished E.L.told E.L.admits E.L.stops };
-
-    fn work<R: Wait>(&mut self, rt: &R) {
+    /// Serves at its port until the service is over, and lets other threads run whenever nothing is there. It may wait.
+    pub fn serve<R: Wait>(&mut self, rt: &R)
+        ensures { HasRun E.goes E.base E.room E.served E.finished E.L.told E.L.admits E.L.stops self.old self.new }
+    {
         let port = self.port;
         self.device.run(rt, port);
     }
