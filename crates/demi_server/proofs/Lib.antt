@@ -1,11 +1,15 @@
-mod Entries
+mod ContextGoing
+mod ContextKinds
+mod ContextOwing
+mod ContextSides
+mod ContextSteps
+mod ContextSubmits
+mod ContextTries
 mod EndsTold
+mod Entries
+pub mod Gathered
+mod Homes
 mod LinkCloses
 mod OnlyCloses
-mod ContextKinds
-mod ContextSides
-mod ContextOwing
-mod ContextTries
-mod ContextSubmits
-mod ContextSteps
-mod ContextGoing
+pub mod Outcomes
+pub mod Rewriting

@@ -1,7 +1,14 @@
+pub mod Building
 pub mod Closed
-pub mod LinkClosed
-pub mod OnlyLink
 pub mod ContextLaws
 pub mod ContextLedgers
 pub mod ContextPorts
 pub mod ContextSights
+pub mod Gathering
+pub mod LinkClosed
+pub mod OnlyLink
+pub mod Outcomes
+pub mod Runs
+pub mod Stations
+pub mod Stopping
+pub mod Working
