@@ -6,8 +6,9 @@ ghost use Rattle.demi_pdpix.specs.Seen.{IsOf};
 ghost use Rattle.demi_pdpix.specs.Tries.{HoldsOf};
 
 use super::doubler::UntilZero;
-use crate::{Answer, Any, Caller, Demi, QResult, Qd};
+use crate::{AllEnd, Answer, Any, Caller, Demi, QResult, Qd};
 use demi_port_core::{Place, QToken};
+use std::alloc::Global;
 use std::process::Abort;
 use std::sync::Wait;
 
@@ -113,5 +114,26 @@ pub(super) fn one_came<R: Wait + Abort>(
     match demi.wait_any(rt, caller, tokens) {
         Any::Ready(i, _, came) => (i, came),
         _ => panic!(rt; "none was there to be redeemed"),
+    }
+}
+
+/// Waits for all of several.
+pub(super) fn all_came<R: Wait + Abort>(
+    rt: &R,
+    alloc: Global,
+    demi: &Demi<UntilZero>,
+    caller: &mut Caller<UntilZero>,
+    tokens: &[QToken],
+) -> Came
+    requires { IsOf demi.now caller.old }
+    ensures of { IsOf demi.now caller.new }
+    ensures owes { (who : ℕ) → Owes demi.now who tokens.now caller.old → Owes demi.now who [] caller.new }
+{
+    match demi.wait_all(rt, alloc, caller, tokens) {
+        Ok(AllEnd {
+            results,
+            halted: None,
+        }) => results,
+        _ => panic!(rt; "one was not there to be redeemed"),
     }
 }
