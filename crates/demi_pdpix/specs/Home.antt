@@ -1,5 +1,5 @@
 -- How a whole stands once all its threads have ended.
-use Rattle.std.specs.Prelude.{◌≡◌, ℕ, List, [], ◌∷◌, length}
+use Rattle.std.specs.Prelude.{◌≡◌, ℕ, ◌≤◌, List, [], ◌∷◌, length}
 use Rattle.demi_heap.specs.Seen.{HeapId}
 use Rattle.demi_port.specs.Seen.{PortId}
 use Rattle.demi_pdpix.specs.declared.seats.Seats.{Seats}
@@ -19,10 +19,11 @@ AreBack heap callers [] (s ∷ ss) = ⊥
 AreBack heap callers (x ∷ xs) [] = ⊥
 AreBack heap callers (x ∷ xs) (s ∷ ss) = IsBack heap callers x s × AreBack heap callers xs ss
 
--- all callers are there, in order, and none of them has anything outstanding; and so are the seats of all ports
+-- all callers are there, in order, and none of them has anything outstanding, and so are the seats of all ports, of which one at most is for a log
 pub record IsHome {L P O S T B : Type 0} (d : DemiId B) (callers : List (CallerValue S T B)) (s : Seats L P O S T B) : Type 0 where
   pub count : length callers ≡ d.callers
   pub calm : AreCalm d 0 callers
+  pub few : length d.journal ≤ 1
   pub memory : IsBack d.heap d.callers d.memory s.memory
   pub service : IsBack d.heap d.callers d.service s.service
   pub journal : AreBack d.heap d.callers d.journal (as_list s.journal)

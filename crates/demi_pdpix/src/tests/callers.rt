@@ -39,7 +39,7 @@ enum Told {
     Halted,
 }
 
-fn told(rt: &impl Abort, came: QResult<UntilZero>) -> Told {
+fn outcome(rt: &impl Abort, came: QResult<UntilZero>) -> Told {
     match came {
         QResult::Mem(MemOut::Opened(queue)) => Told::Opened(queue),
         QResult::Service(double) => Told::Double(double),
@@ -59,7 +59,7 @@ fn all_told(rt: &impl Abort, mut results: Came, want: &[Told]) {
     assert_eq!(rt; results.len(), want.len());
     while let Some((_, came)) = results.pop() {
         let i = results.len();
-        assert_eq!(rt; Some(&told(rt, came)), want.get(i));
+        assert_eq!(rt; Some(&outcome(rt, came)), want.get(i));
     }
     results.destroy_empty();
 }
@@ -80,11 +80,11 @@ fn both_told<R: Wait + Abort>(
     match i {
         0 => {
             let last = came(rt, demi, caller, other);
-            (told(rt, first), told(rt, last))
+            (outcome(rt, first), outcome(rt, last))
         }
         1 => {
             let last = came(rt, demi, caller, one);
-            (told(rt, last), told(rt, first))
+            (outcome(rt, last), outcome(rt, first))
         }
         _ => panic!(rt; "there are two"),
     }
@@ -105,7 +105,7 @@ fn pushed<R: Wait + Abort>(
     match demi.push(caller, qd, sga) {
         Ok((token, half)) => {
             demi.sgafree_lent(caller, half);
-            told(rt, came(rt, demi, caller, token))
+            outcome(rt, came(rt, demi, caller, token))
         }
         Err(_refused) => panic!(rt; "it is not pushed"),
     }
@@ -202,7 +202,7 @@ fn byte_popped<R: Wait + Abort>(
     rt: &R,
     demi: &Demi<UntilZero>,
     caller: &mut Caller<UntilZero>,
-) -> u8
+) -> Option<u8>
     requires { Owes demi.now 1 [] caller.old }
     ensures { Owes demi.now 1 [] caller.new }
 {
@@ -212,7 +212,7 @@ fn byte_popped<R: Wait + Abort>(
             if sga.len() != 1 {
                 panic!(rt; "it is not one byte");
             }
-            let value = sga.part(0, 1)[0];
+            let value = sga.part(0, 1).first().copied();
             demi.sgafree_dev(caller, sga);
             value
         }
@@ -266,10 +266,10 @@ impl<'d> Job for Second<'d> {
     fn work<R: Wait + Abort>(&mut self, rt: &R) {
         let demi = self.demi;
         let caller = &mut self.caller;
-        assert_eq!(rt; byte_popped(rt, demi, caller), 5);
+        assert_eq!(rt; byte_popped(rt, demi, caller), Some(5));
         let token = asked(rt, demi, caller, 21);
         let double = came(rt, demi, caller, token);
-        assert_eq!(rt; told(rt, double), Told::Double(42));
+        assert_eq!(rt; outcome(rt, double), Told::Double(42));
         shared_stopped(rt, self.alloc, demi, caller);
     }
 }

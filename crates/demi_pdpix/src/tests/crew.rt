@@ -28,7 +28,7 @@ pub(super) struct Station<'p, E: Engine> {
 }
 
 impl<'p, E: Engine> Job for Station<'p, E> {
-    ghost ready = { λ s. IsSet E.base s.port.now s.device };
+    ghost ready = { λ s. IsSend E.L.Op.row × IsSend E.L.Out.row × IsSet E.base s.port.now s.device };
 
     ghost done = { λ s t. HasServed E.base E.L.stops E.served s.port.now t.device };
 
@@ -38,11 +38,7 @@ impl<'p, E: Engine> Job for Station<'p, E> {
     }
 }
 
-fn two<R: Threads + Wait + Abort + Sync, A: Job + Send, B: Job + Send>(
-    rt: &R,
-    a: &mut A,
-    b: &mut B,
-)
+fn two<R: Threads + Wait + Abort + Sync, A: Job + Send, B: Job + Send>(rt: &R, a: &mut A, b: &mut B)
     requires { A.ready a.old × B.ready b.old }
     ensures { A.done a.old a.new × B.done b.old b.new }
 {
@@ -83,13 +79,7 @@ fn four<
     B: Job + Send,
     C: Job + Send,
     D: Job + Send,
->(
-    rt: &R,
-    a: &mut A,
-    b: &mut B,
-    c: &mut C,
-    d: &mut D,
-)
+>(rt: &R, a: &mut A, b: &mut B, c: &mut C, d: &mut D)
     requires { A.ready a.old × B.ready b.old × C.ready c.old × D.ready d.old }
     ensures { A.done a.old a.new × B.done b.old b.new × C.done c.old c.new × D.done d.old d.new }
 {
@@ -114,16 +104,7 @@ pub(super) fn seven<
     E: Job + Send,
     F: Job + Send,
     G: Job + Send,
->(
-    rt: &R,
-    a: &mut A,
-    b: &mut B,
-    c: &mut C,
-    d: &mut D,
-    e: &mut E,
-    f: &mut F,
-    g: &mut G,
-)
+>(rt: &R, a: &mut A, b: &mut B, c: &mut C, d: &mut D, e: &mut E, f: &mut F, g: &mut G)
     requires front { A.ready a.old × B.ready b.old × C.ready c.old × D.ready d.old }
     requires back { E.ready e.old × F.ready f.old × G.ready g.old }
     ensures front { A.done a.old a.new × B.done b.old b.new × C.done c.old c.new × D.done d.old d.new }

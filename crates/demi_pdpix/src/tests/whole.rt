@@ -47,7 +47,7 @@ struct Outside {
     log: Log<MemDisk>,
 }
 
-fn outside(rt: &impl Abort, alloc: Global, given: &[u8]) -> Outside
+fn in_memory(rt: &impl Abort, alloc: Global, given: &[u8]) -> Outside
     ensures { IsSound result.log × (result.log.staged ≡ []) }
 {
     let Ok(bytes) = given.to_vec(alloc) else {
@@ -91,24 +91,40 @@ fn made(rt: &impl Abort, alloc: Global, log: &Log<MemDisk>) -> Made
     made_on::<Brand>(rt, alloc, log)
 }
 
-// Both callers. The first has asked for a queue and of the service, and the second has learnt of it.
+// Both callers.
+fn both(
+    rt: &impl Abort,
+    demi: &Demi<UntilZero>,
+    callers: &mut Vec<Caller<UntilZero>>,
+) -> (Caller<UntilZero>, Caller<UntilZero>)
+    requires { (length callers.old.items ≡ 2) × AreCalm demi.now 0 callers.old.items }
+    ensures none { (callers.new.items ≡ []) × (2 ≤ vec_capacity callers.new) }
+    ensures calm { Owes demi.now 0 [] result.0 × Owes demi.now 1 [] result.1 }
+{
+    let _ = demi;
+    let Some(second) = callers.pop() else {
+        panic!(rt; "a caller is missing");
+    };
+    let Some(first) = callers.pop() else {
+        panic!(rt; "a caller is missing");
+    };
+    (first, second)
+}
+
+// The first asks for a queue and of the service, and the second learns of it.
 fn begun<'d>(
     rt: &impl Abort,
     alloc: Global,
     demi: &'d Demi<UntilZero>,
-    callers: &mut Vec<Caller<UntilZero>>,
+    first: Caller<UntilZero>,
+    second: Caller<UntilZero>,
 ) -> (First<'d>, Second<'d>)
-    requires { (length callers.old.items ≡ 2) × AreCalm demi.now 0 callers.old.items }
-    ensures none { (callers.new.items ≡ []) × (2 ≤ vec_capacity callers.new) }
+    requires { Owes demi.now 0 [] first × Owes demi.now 1 [] second }
     ensures first { (result.0.demi.now ≡ demi.now) × Owes demi.now 0 (result.0.asked ∷ result.0.opened ∷ []) result.0.caller }
     ensures second { (result.1.demi.now ≡ demi.now) × Owes demi.now 1 [] result.1.caller }
 {
-    let Some(mut second) = callers.pop() else {
-        unreachable!()
-    };
-    let Some(mut first) = callers.pop() else {
-        unreachable!()
-    };
+    let mut first = first;
+    let mut second = second;
     let opened = opened(rt, demi, &mut first);
     let asked = asked(rt, demi, &mut first, 7);
     demi.learn(&mut second, &mut first);
@@ -148,19 +164,26 @@ fn ran<R: Threads + Wait + Abort + Sync>(
         rx: mut rx_seats,
         tx: mut tx_seats,
     } = seats;
-    let (Some(journal_port), Some(journal), Some(rx), Some(tx)) =
-        (demi.journal(), journal, rx_seats.pop(), tx_seats.pop())
-    else {
-        panic!(rt; "a port is missing");
-    };
     let Outside { source, sink, log } = outside;
+    let (Some(journal_port), Some(journal)) = (demi.journal(), journal) else {
+        panic!(rt; "the log's port is missing");
+    };
+    let Some(rx) = rx_seats.pop() else {
+        panic!(rt; "a link's port is missing");
+    };
+    let Some(tx) = tx_seats.pop() else {
+        panic!(rt; "a link's port is missing");
+    };
     let heap = demi.heap();
-    let mut memory = memory_station(rt, alloc, heap, demi.memory(), memory);
-    let mut service = service_station(rt, alloc, demi.service(), service_seat);
+    let (memory_port, service_port) = (demi.memory(), demi.service());
+    let (rx_port, tx_port) = (demi.rx(0), demi.tx(0));
+    let mut memory = memory_station(rt, alloc, heap, memory_port, memory);
+    let mut service = service_station(rt, alloc, service_port, service_seat);
     let mut journal = journal_station(rt, alloc, heap, journal_port, journal, log);
-    let mut rx = rx_station(rt, alloc, heap, demi.rx(0), rx, source);
-    let mut tx = tx_station(rt, alloc, heap, demi.tx(0), tx, sink);
-    let (mut first, mut second) = begun(rt, alloc, demi, &mut callers);
+    let mut rx = rx_station(rt, alloc, heap, rx_port, rx, source);
+    let mut tx = tx_station(rt, alloc, heap, tx_port, tx, sink);
+    let (first, second) = both(rt, demi, &mut callers);
+    let (mut first, mut second) = begun(rt, alloc, demi, first, second);
     seven(
         rt,
         &mut memory,
@@ -173,11 +196,11 @@ fn ran<R: Threads + Wait + Abort + Sync>(
     );
     callers.push_reserved(first.caller());
     callers.push_reserved(second.caller());
-    let memory = memory_home(heap, demi.memory(), memory);
-    let service_seat = service_home(demi.service(), service);
+    let memory = memory_home(heap, memory_port, memory);
+    let service_seat = service_home(service_port, service);
     let (journal, log) = journal_home(heap, journal_port, journal);
-    let (rx, source) = rx_home(heap, demi.rx(0), rx);
-    let (tx, sink) = tx_home(heap, demi.tx(0), tx);
+    let (rx, source) = rx_home(heap, rx_port, rx);
+    let (tx, sink) = tx_home(heap, tx_port, tx);
     rx_seats.push_reserved(rx);
     tx_seats.push_reserved(tx);
     let seats = Seats {
@@ -203,7 +226,7 @@ fn closed(
 #[test]
 fn two_callers_beside_five_devices(rt: HostRuntime) -> Result<(), Fail> {
     let alloc = rt.alloc();
-    let outside = outside(&rt, alloc, b"over the link");
+    let outside = in_memory(&rt, alloc, b"over the link");
     let (demi, callers, seats) = made(&rt, alloc, &outside.log);
     let (callers, seats, outside) = ran(&rt, alloc, &demi, callers, seats, outside);
     let end = closed(demi, callers, seats);
