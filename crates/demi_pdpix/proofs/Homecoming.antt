@@ -1,5 +1,5 @@
 -- Callers who owe nothing and seats that are back: what the close of a whole needs.
-use Rattle.std.proofs.Common.{◌≡◌, ℕ, zero, suc, ◌+◌, ◌<◌, ◌≤◌, inl, inr, List, [], ◌∷◌, length, get_or, ap, sym, subst, ◌∙◌, arith}
+use Rattle.std.proofs.Common.{◌≡◌, ℕ, zero, suc, ◌+◌, ◌<◌, ◌≤◌, inl, inr, List, [], ◌∷◌, length, get_or, refl, ap, sym, subst, ◌∙◌, arith}
 use Rattle.demi_heap.specs.Seen.{HeapId}
 use Rattle.demi_port_core.specs.History.{AnyOf, Each, total}
 use Rattle.demi_port.specs.Seen.{PassValue, PortId}
@@ -29,7 +29,7 @@ all_even : {A D T B : Type 0} (f : A → PassValue D T B) (n : ℕ) (cs : List A
 all_even f n [] due = refl
 all_even f n (c ∷ cs) due = let a = due.0.1 in let b = all_even f (n + 1) cs due.1 in omega (arith, a, b)
 
-all_due : {A D T B E U C : Type 0} (d : DemiId C) (f : CallerValue E U C → PassValue D T B) → ((n : ℕ) (c : CallerValue E U C) → Owes d n [] c → IsDue n 0 (f c))
+all_due : {D T B E U C : Type 0} (d : DemiId C) (f : CallerValue E U C → PassValue D T B) → ((n : ℕ) (c : CallerValue E U C) → Owes d n [] c → IsDue n 0 (f c))
     → (n : ℕ) (cs : List (CallerValue E U C)) → AreCalm d n cs → AllDue f n cs
 all_due d f one n [] calm = tt
 all_due d f one n (c ∷ cs) calm = (one n c calm.0, all_due d f one (n + 1) cs calm.1)

@@ -5,7 +5,6 @@ use Rattle.demi_heap.specs.Seen.{HeapId}
 use Rattle.demi_logq.specs.Answers.{LogBasis}
 use Rattle.demi_port.specs.Seen.{PortId}
 use Rattle.demi_pdpix.specs.declared.seats.Seats.{Seats}
-use Rattle.demi_pdpix.specs.Making.{log_on}
 use Rattle.demi_pdpix.specs.Seen.{DemiId, IsNewPair, Pair, as_list}
 
 -- the device is at this port, which has two passes, and its engine stands on what the port does
@@ -29,10 +28,10 @@ pub record IsFit {D T B : Type 0} (heap : HeapId) (base : B) (port : PortId B) (
 abbrev pub IsOnlyFit : {D T B : Type 0} → HeapId → B → List (PortId B) → List (Pair D T B) → Type 0
 IsOnlyFit {D} {T} {B} heap base ports seats = (port : PortId B) × (s : Pair D T B) × (ports ≡ port ∷ []) × (seats ≡ s ∷ []) × IsFit heap base port s
 
--- such seats of all ports of a whole with a log on this basis and one link
-pub record AreFit {L P O S T B : Type 0} (service : B) (log : LogBasis) (d : DemiId B) (s : Seats L P O S T B) : Type 0 where
+-- such seats of all ports of a whole with a log and one link, on these bases
+pub record AreFit {L P O S T B : Type 0} (service : B) (log : HeapId → LogBasis) (d : DemiId B) (s : Seats L P O S T B) : Type 0 where
   pub memory : IsFit d.heap d.heap d.memory s.memory
   pub service_seat : IsFit d.heap service d.service s.service
-  pub journal : IsOnlyFit d.heap (log_on log d.heap) d.journal (as_list s.journal)
+  pub journal : IsOnlyFit d.heap (log d.heap) d.journal (as_list s.journal)
   pub rx : IsOnlyFit d.heap d.heap d.rx s.rx.items
   pub tx : IsOnlyFit d.heap d.heap d.tx s.tx.items

@@ -167,7 +167,7 @@ pub(super) struct First<'d> {
 
 impl<'d> First<'d> {
     pub(super) fn caller(self) -> Caller<UntilZero>
-        ensures { result ≡ self.caller }
+        ensures { result ≡ self.entry.caller }
     {
         let First {
             alloc: _,
@@ -247,7 +247,7 @@ pub(super) struct Second<'d> {
 
 impl<'d> Second<'d> {
     pub(super) fn caller(self) -> Caller<UntilZero>
-        ensures { result ≡ self.caller }
+        ensures { result ≡ self.entry.caller }
     {
         let Second {
             alloc: _,

@@ -1,5 +1,5 @@
 //! The devices of a whole with a log and one link, whose outside is in memory.
-ghost use Rattle.std.specs.Prelude.{◌≡◌, ◌≤◌, [], IfErr, IfOk, Some};
+ghost use Rattle.std.specs.Prelude.{◌≡◌, ◌==◌, ◌≤◌, [], IfErr, IfOk};
 ghost use Rattle.demi_port.specs.Seen.{IsNewSeat};
 ghost use Rattle.demi_logq.specs.Answers.{is_stop as stops_log};
 ghost use Rattle.demi_logq.specs.Engine.{basis_of};
@@ -151,7 +151,8 @@ pub(super) fn memory_home<'d>(
     requires served { HasServed (λ e. e.pass.heap) stops_memory (λ e. e.served) port.now station.device }
     ensures { IsBack heap.now 2 port.now result }
 {
-    let _ = (heap, port);
+    let _ = heap;
+    let _ = port;
     let Station { device, port: _ } = station;
     let (engine, seat) = device.parts();
     (seat, engine.parts())
@@ -181,7 +182,8 @@ pub(super) fn journal_home<'d>(
     requires served { HasServed (λ e. e.base) stops_log (λ e. e.served) port.now station.device }
     ensures { IsBack heap.now 2 port.now result.0 }
 {
-    let _ = (heap, port);
+    let _ = heap;
+    let _ = port;
     let Station { device, port: _ } = station;
     let (engine, seat) = device.parts();
     let (log, pass) = engine.parts();
@@ -198,7 +200,8 @@ pub(super) fn rx_home<'d>(
     requires served { HasServed (λ e. e.pass.heap) stops_reading (λ e. e.served) port.now station.device }
     ensures { IsBack heap.now 2 port.now result.0 }
 {
-    let _ = (heap, port);
+    let _ = heap;
+    let _ = port;
     let Station { device, port: _ } = station;
     let (engine, seat) = device.parts();
     let (source, pass) = engine.parts();
@@ -215,7 +218,8 @@ pub(super) fn tx_home<'d>(
     requires served { HasServed (λ e. e.pass.heap) stops_writing (λ e. e.served) port.now station.device }
     ensures { IsBack heap.now 2 port.now result.0 }
 {
-    let _ = (heap, port);
+    let _ = heap;
+    let _ = port;
     let Station { device, port: _ } = station;
     let (engine, seat) = device.parts();
     let (sink, pass) = engine.parts();

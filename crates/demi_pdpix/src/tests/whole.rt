@@ -48,6 +48,7 @@ struct Outside {
 }
 
 fn in_memory(rt: &impl Abort, alloc: Global, given: &[u8]) -> Outside
+    requires { length given.now ≤ 16 }
     ensures { IsSound result.log × (result.log.staged ≡ []) }
 {
     let Ok(bytes) = given.to_vec(alloc) else {
