@@ -1,6 +1,7 @@
 -- A whole with two callers, at its beginning, at its end, and in between.
 use Rattle.std.proofs.Common.{◌≡◌, ℕ, zero, suc, ◌+◌, ◌<◌, List, [], ◌∷◌, ◌++◌, All, length, length-append, get_or, map, refl, ap, sym, subst, ◌∙◌, arith}
 use Rattle.std.specs.Prelude.{Option, None}
+use Rattle.demi_device.specs.Turning.{WholeDevice}
 use Rattle.demi_heap.specs.Seen.{HeapId}
 use Rattle.demi_heap.specs.Seen.{PassValue as HeapPassValue}
 use Rattle.demi_port.specs.Seen.{PassValue, PortId}
@@ -9,7 +10,7 @@ use Rattle.demi_port_core.specs.declared.place.QToken.{QToken}
 use Rattle.demi_pdpix.specs.declared.all.Halted.{Halted}
 use Rattle.demi_pdpix.specs.declared.outcomes.QResult.{QResult}
 use Rattle.demi_pdpix.specs.Home.{AreBack, IsBack}
-use Rattle.demi_pdpix.specs.InTests.{IsFit, IsOnlyFit}
+use Rattle.demi_pdpix.specs.InTests.{IsFit, IsOnlyFit, IsSet}
 use Rattle.demi_pdpix.specs.Notes.{all_learnt, all_noted, each_learnt, noted}
 use Rattle.demi_pdpix.specs.Owing.{AreCalm, AreDue, IsFirstDue, Owes}
 use Rattle.demi_pdpix.specs.Seen.{AreNewPairs, CallerValue, DemiId, IsOf, Pair}
@@ -98,9 +99,17 @@ only_at h base ports seats [] x s fit at is =
     (refl, subst (λ p. IsFit h base p s) (sym port) (subst (λ z. IsFit h base fit.0 z) (sym seat) fit.4))
 only_at h base ports seats (r ∷ rest) x s fit at is = let p = ap length (sym is ∙ fit.3) in let q = length-append rest (s ∷ []) in absurd (omega (arith, p, q))
 
+-- a device is at a port whatever the port is called
+pub set_along : {E D T B : Type 0} (base : E → B) (p q : PortId B) (v : WholeDevice E D T B) → q ≡ p → IsSet base p v → IsSet base q v
+set_along base p q v is set = subst (λ x. IsSet base x v) (sym is) set
+
+-- a seat has come back, whatever heap and port are called
+pub back_along : {D T B : Type 0} (h i : HeapId) (callers : ℕ) (x y : PortId B) (s : Pair D T B) → h ≡ i → callers ≡ 2 → x ≡ y → IsBack h 2 x s → IsBack i callers y s
+back_along h i callers x y s heap two port back = record { port_is = back.port_is ∙ port; passes = back.passes ∙ sym two; heap_is = back.heap_is ∙ heap }
+
 -- the seat of that port has come back
-pub only_back : {D T B : Type 0} (h : HeapId) (callers : ℕ) (base : B) (ports : List (PortId B)) (seats now : List (Pair D T B)) (x : PortId B) (s : Pair D T B) → IsOnlyFit h base ports seats → x ≡ get_or ports 0 x → callers ≡ 2
-    → IsBack h 2 x s → now ≡ s ∷ [] → AreBack h callers ports now
-only_back h callers base ports seats now x s fit at two back is =
+pub only_back : {D T B : Type 0} (h i : HeapId) (callers : ℕ) (base : B) (ports : List (PortId B)) (seats now : List (Pair D T B)) (x : PortId B) (s : Pair D T B) → IsOnlyFit h base ports seats → x ≡ get_or ports 0 x → i ≡ h → callers ≡ 2
+    → IsBack i 2 x s → now ≡ s ∷ [] → AreBack h callers ports now
+only_back h i callers base ports seats now x s fit at heap two back is =
     let port : x ≡ fit.0 = at ∙ ap (λ l. get_or l 0 x) fit.2 in
-    subst (λ xs. AreBack h callers xs now) (sym fit.2) (subst (AreBack h callers (fit.0 ∷ [])) (sym is) (subst (λ p. IsBack h callers p s) port (subst (λ n. IsBack h n x s) (sym two) back), tt))
+    subst (λ xs. AreBack h callers xs now) (sym fit.2) (subst (AreBack h callers (fit.0 ∷ [])) (sym is) (back_along i h callers x fit.0 s heap two port back, tt))
