@@ -145,7 +145,6 @@ fn begun<'d>(
 }
 
 // Makes the devices, runs them beside the callers, and takes them apart.
-#[tactic(auto, using(crate::proofs::Shareable::demi_sync))]
 fn ran<R: Threads + Wait + Abort + Sync>(
     rt: &R,
     alloc: Global,

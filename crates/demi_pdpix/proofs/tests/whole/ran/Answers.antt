@@ -1,6 +1,10 @@
 use Rattle.std.proofs.Common.{◌≡◌, ◌∙◌, [], ◌∷◌, ◌++◌, get_or, length, refl, ap, sym, subst, arith}
 use Rattle.std.specs.Prelude.{Some}
-use denote.Param.Send.{sendable}
+use denote.Ref.{NamedLft}
+use denote.Struct.Field.{u32-field, u64-field, unit-field}
+use denote.Struct.Struct.{Struct}
+use denote.Struct.Declared.{shape}
+use denote.Param.Send.{IsSend, IsSync, arg_send, param_send, plain_send, recorded_send, sendable, shr_send, struct_send}
 use Rattle.std.proofs.Crossing.{crosses}
 use Rattle.demi_memq.proofs.op.MemOp.TheSendSync.{the_send as mem_op_send}
 use Rattle.demi_memq.proofs.out.MemOut.TheSendSync.{the_send as mem_out_send}
@@ -10,10 +14,39 @@ use Rattle.demi_streamq.proofs.rx_op.RxOp.TheSendSync.{the_send as rx_op_send}
 use Rattle.demi_streamq.proofs.rx_out.RxOut.TheSendSync.{the_send as rx_out_send}
 use Rattle.demi_streamq.proofs.tx_op.TxOp.TheSendSync.{the_send as tx_op_send}
 use Rattle.demi_streamq.proofs.tx_out.TxOut.TheSendSync.{the_send as tx_out_send}
+use Rattle.demi_pdpix.proofs.caller.Caller.TheSendSync.{the_send as caller_send}
+use Rattle.demi_pdpix.proofs.Shareable.{demi_sync}
+use Rattle.demi_pdpix.specs.contracts.demi.Demi.{the_row as demi}
+use Rattle.demi_pdpix.specs.contracts.tests.doubler.UntilZero.{the_row as until_zero}
+use Rattle.demi_pdpix.specs.contracts.tests.doubler.UntilZeroLaw.TheImpl.{ghosts as until_zero_law}
+use Rattle.demi_pdpix.specs.contracts.tests.callers.First.{the_row as first_row, the_type as first_type}
+use Rattle.demi_pdpix.specs.contracts.tests.callers.Second.{the_row as second_row, the_type as second_type}
 use Rattle.demi_pdpix.specs.Owing.{AreCalm, Owes}
 use Rattle.demi_pdpix.specs.Seen.{as_list}
 use Rattle.demi_pdpix.proofs.TwoCallers.{back_along, only_at, only_back, set_along}
 use Rattle.demi_pdpix.proofs.tests.whole.ran.Goals as goal
+
+-- what the callers have may go to a thread: the whole is shared, and each has its own caller
+demi_shared : IsSync (demi until_zero u32-field.row u64-field.row u32-field.row unit-field.row unit-field.row until_zero_law)
+demi_shared = demi_sync until_zero u32-field.row u64-field.row u32-field.row unit-field.row unit-field.row until_zero_law (search plain_send) (search plain_send)
+
+first_send : (n : NamedLft) → IsSend (first_row n)
+first_send n = let t = first_type n in recorded_send (Struct (shape t)) t.D t.to t.to_one (struct_send (shape t) (
+  search (sendable, crosses) depth 20,
+  (shr_send _ _ _ demi_shared, (search (plain_send, caller_send) depth 10, (search sendable depth 20, (search sendable depth 20, tt)))),
+))
+
+second_send : (n : NamedLft) → IsSend (second_row n)
+second_send n = let t = second_type n in recorded_send (Struct (shape t)) t.D t.to t.to_one (struct_send (shape t) (
+  search (sendable, crosses) depth 20,
+  (shr_send _ _ _ demi_shared, (search (plain_send, caller_send) depth 10, tt)),
+))
+
+pub seven-requires-send-F : goal.seven-requires-send-F
+seven-requires-send-F g c κs within = search (param_send, arg_send, first_send) depth 6
+
+pub seven-requires-send-G : goal.seven-requires-send-G
+seven-requires-send-G g c κs within = search (param_send, arg_send, second_send) depth 6
 
 pub seven-requires-clause-front : goal.seven-requires-clause-front
 seven-requires-clause-front g c κs within = let m = c.memory_station-memory.ensures in let s = c.service_station-service.ensures in let j = c.journal_station-journal.ensures in let r = c.rx_station-rx.ensures in (
@@ -42,7 +75,7 @@ returns g c = let d = c.args.demi.now in let seats = c.args.seats in let fit = c
     let tx-none = (only_at d.heap d.heap d.tx seats.tx.items c.pop-2.new.self.items tx c.in-Some-pop.tx fit.tx c.tx-tx_port.ensures c.in-Some-pop.ensures.items).0 in
     record {
       count = ap length callers ∙ sym two;
-      calm = subst (AreCalm d 0) (sym callers) (owes-a, owes-b, tt);
+      calm = subst (AreCalm d 0) (sym callers) (owes-a, (owes-b, tt));
       few = (let many = ap length fit.journal.2 in omega (arith, many));
       memory = back_along h d.heap d.callers c.memory-memory_port.result.now d.memory c.memory_home-memory.result heap two c.memory-memory_port.ensures c.memory_home-memory.ensures;
       service = record {
