@@ -14,5 +14,7 @@ mod StillBusy
 mod AllCame
 pub mod Holding
 mod OneCaller
+pub mod Homecoming
+mod TwoCallers
 pub mod SharedSeats
 pub mod Shareable

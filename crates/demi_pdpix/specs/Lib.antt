@@ -12,5 +12,6 @@ pub mod Several
 pub mod Together
 pub mod Notes
 pub mod Owing
+pub mod Home
 pub mod InTests
 pub mod Alone

@@ -1,5 +1,9 @@
+mod callers;
+mod crew;
+mod devices;
 mod doubler;
 mod redeeming;
 mod refusing;
 mod rows;
 mod talking;
+mod whole;

@@ -75,7 +75,8 @@ fn refusals(rt: &impl Abort, demi: &Demi<UntilZero>, caller: &mut Caller<UntilZe
     }
 }
 
-fn byte(
+/// An array of one byte.
+pub(super) fn byte(
     rt: &impl Abort,
     demi: &Demi<UntilZero>,
     caller: &mut Caller<UntilZero>,

@@ -1,13 +1,14 @@
 //! What callers submit and redeem.
-ghost use Rattle.std.specs.Prelude.{◌≡◌, ◌<◌, ◌≤◌, ℕ, List, [], ◌∷◌, length};
+ghost use Rattle.std.specs.Prelude.{◌≡◌, ◌<◌, ◌≤◌, ℕ, List, [], ◌∷◌, None, length};
 ghost use Rattle.demi_port_core.specs.declared.place.QToken.{QToken as QTokens};
 ghost use Rattle.demi_pdpix.specs.Owing.{Owes, without_at};
 ghost use Rattle.demi_pdpix.specs.Seen.{IsOf};
 ghost use Rattle.demi_pdpix.specs.Tries.{HoldsOf};
 
 use super::doubler::UntilZero;
-use crate::{Answer, Any, Caller, Demi, QResult, Qd};
+use crate::{AllEnd, Answer, Any, Caller, Demi, Halted, QResult, Qd};
 use demi_port_core::{Place, QToken};
+use std::alloc::Global;
 use std::process::Abort;
 use std::sync::Wait;
 
@@ -114,4 +115,33 @@ pub(super) fn one_came<R: Wait + Abort>(
         Any::Ready(i, _, came) => (i, came),
         _ => panic!(rt; "none was there to be redeemed"),
     }
+}
+
+// Nothing ended a wait for all before its time.
+fn not_halted(rt: &impl Abort, halted: Option<Halted>)
+    ensures { halted ≡ None }
+{
+    match halted {
+        None => {}
+        Some(_) => panic!(rt; "one was not there to be redeemed"),
+    }
+}
+
+/// Waits for all of several.
+pub(super) fn all_came<R: Wait + Abort>(
+    rt: &R,
+    alloc: Global,
+    demi: &Demi<UntilZero>,
+    caller: &mut Caller<UntilZero>,
+    tokens: &[QToken],
+) -> Came
+    requires { IsOf demi.now caller.old }
+    ensures of { IsOf demi.now caller.new }
+    ensures owes { (who : ℕ) → Owes demi.now who tokens.now caller.old → Owes demi.now who [] caller.new }
+{
+    let Ok(AllEnd { results, halted }) = demi.wait_all(rt, alloc, caller, tokens) else {
+        panic!(rt; "no memory");
+    };
+    not_halted(rt, halted);
+    results
 }
