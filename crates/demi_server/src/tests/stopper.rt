@@ -73,19 +73,70 @@ fn stop_store<R: Wait>(rt: &R, demi: &Demi<StoreLaw>, caller: &mut Caller<StoreL
     }
 }
 
+fn let_go_of_memory<R: Wait>(rt: &R, out: MemOut) {
+    match out {
+        MemOut::Item(sga) => {
+            let _never = hold(rt, sga);
+        }
+        MemOut::Opened(_)
+        | MemOut::TooMany
+        | MemOut::Pushed
+        | MemOut::BadQueue
+        | MemOut::Shut
+        | MemOut::Closed
+        | MemOut::QueueFull
+        | MemOut::Stopped(_)
+        | MemOut::Halted => {}
+    }
+}
+
+fn let_go_of_store<R: Wait>(rt: &R, out: StoreOut) {
+    let StoreOut { answer: _, back } = out;
+    match back {
+        Back::Nothing => {}
+        Back::Value(sga) => {
+            let _never = hold(rt, sga);
+        }
+        Back::Room(room) => {
+            let _never = hold(rt, room);
+        }
+    }
+}
+
+fn let_go_of_rx<R: Wait>(rt: &R, out: RxOut) {
+    match out {
+        RxOut::Piece(piece) => {
+            let _never = hold(rt, piece);
+        }
+        RxOut::End
+        | RxOut::Fault(_)
+        | RxOut::Broken(_)
+        | RxOut::NoSlot
+        | RxOut::Stopped(_)
+        | RxOut::Halted => {}
+    }
+}
+
+fn let_go_of_tx(out: TxOut) {
+    match out {
+        TxOut::Pushed
+        | TxOut::Fault(_)
+        | TxOut::Broken(_)
+        | TxOut::Shut
+        | TxOut::Closed
+        | TxOut::Stopped(_)
+        | TxOut::Halted => {}
+    }
+}
+
 fn let_go<R: Wait>(rt: &R, out: QResult<StoreLaw>) {
     match out {
-        QResult::Mem(MemOut::Halted)
-        | QResult::Rx(RxOut::Halted)
-        | QResult::Tx(TxOut::Halted)
-        | QResult::Service(
-            StoreOut {
-                answer: _,
-                back: Back::Nothing,
-            },
-        ) => {}
-        other => {
-            let _never = hold(rt, other);
+        QResult::Mem(out) => let_go_of_memory(rt, out),
+        QResult::Service(out) => let_go_of_store(rt, out),
+        QResult::Rx(out) => let_go_of_rx(rt, out),
+        QResult::Tx(out) => let_go_of_tx(out),
+        QResult::Log(out) => {
+            let _never = hold(rt, out);
         }
     }
 }
