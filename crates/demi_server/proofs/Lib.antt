@@ -1,3 +1,4 @@
+pub mod Backs
 pub mod Gathered
 pub mod Homes
 pub mod Outcomes
