@@ -32,8 +32,8 @@ links_back heap n f (p ∷ ps) [] ws new many same = absurd new
 links_back heap n f (p ∷ ps) (v ∷ vs) [] new many same = absurd (omega (arith, many))
 links_back heap n f (p ∷ ps) (v ∷ vs) (w ∷ ws) new many same =
     let first = same 0 v (omega arith) in (
-    one_back heap n p (f v) (f w) (f v).0 (f w).0 (f v).1 (f w).1 new.0 refl refl first.0 first.1 first.2,
-    links_back heap n f ps vs ws new.1 (omega (arith, many)) (λ k d low. same (suc k) d (omega (arith, low))),
+      one_back heap n p (f v) (f w) (f v).0 (f w).0 (f v).1 (f w).1 new.0 refl refl first.0 first.1 first.2,
+      links_back heap n f ps vs ws new.1 (omega (arith, many)) (λ k d low. same (suc k) d (omega (arith, low))),
     )
 
 -- all seats of devices that were made of new parts, have run, and were taken apart

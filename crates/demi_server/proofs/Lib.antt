@@ -3,3 +3,4 @@ pub mod Gathered
 pub mod Homes
 pub mod Outcomes
 pub mod Rewriting
+pub mod Stopped

@@ -1,5 +1,7 @@
 //! The devices of a session with one link, in threads, over a source, a sink and a disk in memory.
-ghost use Rattle.std.specs.Prelude.{◌≡◌, ◌<◌, ◌≤◌, [], IfOk, length};
+ghost use Rattle.std.specs.Prelude.{◌≡◌, ◌≤◌, [], None, length};
+ghost use Rattle.demi_pdpix.specs.Alone.{IsAlone};
+ghost use Rattle.demi_server.specs.Gathering.{AreBack, AreBackAt, AreFor, IsBackAt};
 
 use super::stopper::Stopper;
 use crate::devices::Devices;
@@ -9,7 +11,7 @@ use crate::plan::Plan;
 use crate::running::run_devices;
 use demi_core::{MemDisk, MemSink, MemSource};
 use demi_logq::Log;
-use demi_pdpix::{Caller, Demi};
+use demi_pdpix::{Caller, Demi, Seats};
 use demi_store::{StoreEngine, StoreLaw};
 use std::alloc::Global;
 use std::process::Abort;
@@ -60,7 +62,13 @@ fn over_ports<R: Threads + Wait + Sync + Abort>(
     demi: &Demi<StoreLaw>,
     mut callers: Vec<Caller<StoreLaw>>,
     parts: OneLink,
-) -> (Vec<Caller<StoreLaw>>, OneLink) {
+) -> (Vec<Caller<StoreLaw>>, OneLink)
+    requires parts { AreFor demi.now parts }
+    requires callers { IsAlone demi.now callers.items }
+    ensures callers { IsAlone demi.now result.0.items }
+    ensures back { AreBack demi.now result.1 }
+    ensures journal { result.1.seats.journal ≡ parts.seats.journal }
+{
     let Ok(mut crew) = Vec::with_capacity(alloc, 1) else {
         panic!(rt; "no memory");
     };
@@ -87,7 +95,13 @@ fn opened(
     alloc: Global,
     links: Vec<(MemSource, MemSink)>,
     store: StoreEngine<MemDisk>,
-) -> Opened<MemSource, MemSink, MemDisk> {
+) -> Opened<MemSource, MemSink, MemDisk>
+    requires links { length links.items ≤ 16 }
+    requires store { (store.served ≡ []) × (store.finished ≡ []) }
+    ensures parts { AreFor result.demi result.parts }
+    ensures callers { (result.demi.callers ≡ 1) × IsAlone result.demi result.callers.items }
+    ensures journal { (result.demi.journal ≡ []) × (result.parts.seats.journal ≡ None) }
+{
     match open(alloc, PLAN, links, store) {
         Ok(opened) => opened,
         Err((_links, store)) => {
@@ -95,6 +109,17 @@ fn opened(
             panic!(rt; "no memory")
         }
     }
+}
+
+// How many slots are free at the end.
+fn free_at_end(demi: Demi<StoreLaw>, callers: Vec<Caller<StoreLaw>>, seats: Seats<StoreLaw>) -> u32
+    requires callers { (demi.callers ≡ 1) × IsAlone demi callers.items }
+    requires journal { (demi.journal ≡ []) × (seats.journal ≡ None) }
+    requires queues { IsBackAt demi.heap 1 demi.memory seats.memory × IsBackAt demi.heap 1 demi.service seats.service }
+    requires links { AreBackAt demi.heap 1 demi.rx seats.rx.items × AreBackAt demi.heap 1 demi.tx seats.tx.items }
+{
+    let end = demi.close(callers, seats);
+    end.heap.free
 }
 
 #[test]
@@ -114,13 +139,13 @@ fn devices_run_beside_who_stops_them(rt: HostRuntime) -> Result<(), Fail> {
         store,
         seats,
     } = parts;
-    let end = demi.close(callers, seats);
+    let free = free_at_end(demi, callers, seats);
     let Some((source, sink)) = links.pop() else {
         panic!(rt; "there is a link");
     };
     assert_eq!(rt; source.bytes().len(), 3);
     assert_eq!(rt; sink.bytes().len(), 0);
-    assert_eq!(rt; end.heap.free, 74);
+    assert_eq!(rt; free, 74);
     let _disk = store.parts().disk();
     Ok(())
 }
