@@ -39,22 +39,22 @@ run_devices-devices-requires-send-W g c κs within = search (param_send, arg_sen
 
 pub run_devices-devices-requires-clause-ready : goal.run_devices-devices-requires-clause-ready
 run_devices-devices-requires-clause-ready g c κs within =
-  let d = c.args.demi.now in let s = c.make.result in
-  let is = c.deref_mut.ensures.value ∙ c.push_reserved.ensures.items ∙ ap (λ l. l ++ s ∷ []) c.in-Ok.ensures.items in
-  let calm = (popped_alone d c.args.callers.items c.pop.new.self.items c.in-Some.caller c.requires.callers c.in-Some.ensures.items).1 in
-  all_of_one IsCalm c.deref_mut.result.now s is (subst (λ x. Owes x 0 [] s.caller) (sym c.make.ensures.0) (subst (Owes d 0 []) (sym c.make.ensures.1) calm))
+    let d = c.args.demi.now in let s = c.make.result in
+    let is = c.deref_mut.ensures.value ∙ c.push_reserved.ensures.items ∙ ap (λ l. l ++ s ∷ []) c.in-Ok.ensures.items in
+    let calm = (popped_alone d c.args.callers.items c.pop.new.self.items c.in-Some.caller c.requires.callers c.in-Some.ensures.items).1 in
+    all_of_one IsCalm c.deref_mut.result.now s is (subst (λ x. Owes x 0 [] s.caller) (sym c.make.ensures.0) (subst (Owes d 0 []) (sym c.make.ensures.1) calm))
 
 pub returns-clause-callers : goal.returns-clause-callers
 returns-clause-callers g c =
-  let d = c.args.demi.now in let s = c.make.result in let crew = c.push_reserved.new.self in let new = c.run_devices-devices.new.workers in
-  let is = c.deref_mut.ensures.value ∙ c.push_reserved.ensures.items ∙ ap (λ l. l ++ s ∷ []) c.in-Ok.ensures.items in
-  let done = c.run_devices-devices.ensures.workers in
-  let same = rewritten crew.len new crew.items (done.as_many ∙ ap length c.deref_mut.ensures.value ∙ sym crew.ok.0) in
-  let calm = crew_calm d c.deref_mut.result.now new c.pop-in-Ok-make.new.self.items s c.in-Some-pop.stopper is c.make.ensures.0 done (sym same ∙ c.in-Some-pop.ensures.items) in
-  let none = (popped_alone d c.args.callers.items c.pop.new.self.items c.in-Some.caller c.requires.callers c.in-Some.ensures.items).0 in
-  (c.caller.result, c.push_reserved-in-Ok-make.ensures.items ∙ ap (λ l. l ++ c.caller.result ∷ []) none, subst (Owes d 0 []) (sym c.caller.ensures) calm.1)
+    let d = c.args.demi.now in let s = c.make.result in let crew = c.push_reserved.new.self in let new = c.run_devices-devices.new.workers in
+    let is = c.deref_mut.ensures.value ∙ c.push_reserved.ensures.items ∙ ap (λ l. l ++ s ∷ []) c.in-Ok.ensures.items in
+    let done = c.run_devices-devices.ensures.workers in
+    let same = rewritten crew.len new crew.items (done.as_many ∙ ap length c.deref_mut.ensures.value ∙ sym crew.ok.0) in
+    let calm = crew_calm d c.deref_mut.result.now new c.pop-in-Ok-make.new.self.items s c.in-Some-pop.stopper is c.make.ensures.0 done (sym same ∙ c.in-Some-pop.ensures.items) in
+    let none = (popped_alone d c.args.callers.items c.pop.new.self.items c.in-Some.caller c.requires.callers c.in-Some.ensures.items).0 in
+    (c.caller.result, c.push_reserved-in-Ok-make.ensures.items ∙ ap (λ l. l ++ c.caller.result ∷ []) none, subst (Owes d 0 []) (sym c.caller.ensures) calm.1)
 
 pub returns-clause-back : goal.returns-clause-back
 returns-clause-back g c =
-  let r = c.run_devices-devices.ensures in
-  all_back _ _ _ _ _ _ _ _ _ _ _ c.args.demi.now c.args.parts c.parts.result c.in-Ok-make.devices c.run_devices-devices.result c.requires.parts c.in-Ok-make.ensures.made r.memory r.store r.links r.others.0 c.parts.ensures.parts
+    let r = c.run_devices-devices.ensures in
+    all_back _ _ _ _ _ _ _ _ _ _ _ c.args.demi.now c.args.parts c.parts.result c.in-Ok-make.devices c.run_devices-devices.result c.requires.parts c.in-Ok-make.ensures.made r.memory r.store r.links r.others.0 c.parts.ensures.parts
