@@ -1,3 +1,4 @@
+pub mod Backs
 mod ContextGoing
 mod ContextKinds
 mod ContextOwing
@@ -8,8 +9,10 @@ mod ContextTries
 mod EndsTold
 mod Entries
 pub mod Gathered
-mod Homes
+pub mod Homes
 mod LinkCloses
 mod OnlyCloses
+mod OutcomeRows
 pub mod Outcomes
 pub mod Rewriting
+pub mod Stopped

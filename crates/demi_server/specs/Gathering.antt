@@ -1,13 +1,14 @@
 -- All devices of a session: what they are made of, and what of them comes back.
-use Rattle.std.specs.Prelude.{◌≡◌, ℕ, ◌+◌, ◌*◌, ◌≤◌, List, [], All, Option, length, map}
-use Rattle.demi_heap.specs.Seen.{IsShape, PassValue as HeapPass}
+use Rattle.std.specs.Prelude.{◌≡◌, ℕ, ◌+◌, ◌*◌, ◌≤◌, List, [], ◌∷◌, All, Option, length, map}
+use Rattle.demi_heap.specs.Seen.{HeapId, IsShape, PassValue as HeapPass}
+use Rattle.demi_port.specs.Seen.{PortId}
 use Rattle.demi_device.specs.Turning.{WholeDevice}
 use Rattle.demi_memq.specs.Said.{is_stop as stops_memory}
 use Rattle.demi_store.specs.Engine.{EngineValue}
 use Rattle.demi_store.specs.Laws.{StoreBasis, is_stop as stops_store}
 use Rattle.demi_store.specs.declared.ask.StoreAsk.{StoreAsk}
 use Rattle.demi_store.specs.declared.told.StoreTold.{StoreTold}
-use Rattle.demi_pdpix.specs.Seen.{AreNewPairs, DemiId, IsNewPair, LogPair}
+use Rattle.demi_pdpix.specs.Seen.{AreNewPairs, DemiId, IsNewPair, LogPair, Pair}
 use Rattle.demi_server.specs.Building.{IsLinkNew, IsLinkSpent, IsSpent, LinkDevices, MemDevice, ends_of, rx_of, tx_of}
 use Rattle.demi_server.specs.declared.parts.Parts.{Parts}
 
@@ -71,3 +72,23 @@ pub record AreSpent {I O D : Type 0} (d : AllDevices I O D) : Type 0 where
 -- and each device.
 abbrev pub HasSlots : ℕ → ℕ → DemiId StoreBasis → Type 0
 HasSlots links workers d = IsShape d.heap.shape (record { small = 4 * links + 64; page = 2 * links; large = 4 * links }) (workers + 2 + links + links)
+
+-- The seat of this port's device is there again, and the pass of the heap.
+pub record IsBackAt {D T B : Type 0} (heap : HeapId) (callers : ℕ) (port : PortId B) (s : Pair D T B) : Type 0 where
+  pub at : s.0.port ≡ port
+  pub passes : s.0.passes ≡ callers
+  pub pass : s.1.heap ≡ heap
+
+-- so are those of these ports, in order
+abbrev pub AreBackAt : {D T B : Type 0} → HeapId → ℕ → List (PortId B) → List (Pair D T B) → Type 0
+AreBackAt heap callers [] [] = Unit {0}
+AreBackAt heap callers [] (s ∷ ss) = ⊥
+AreBackAt heap callers (x ∷ xs) [] = ⊥
+AreBackAt heap callers (x ∷ xs) (s ∷ ss) = IsBackAt heap callers x s × AreBackAt heap callers xs ss
+
+-- All seats of the whole are there again.
+pub record AreBack {I O D : Type 0} (d : DemiId StoreBasis) (p : Parts I O D) : Type 0 where
+  pub memory : IsBackAt d.heap d.callers d.memory p.seats.memory
+  pub service : IsBackAt d.heap d.callers d.service p.seats.service
+  pub rx : AreBackAt d.heap d.callers d.rx p.seats.rx.items
+  pub tx : AreBackAt d.heap d.callers d.tx p.seats.tx.items

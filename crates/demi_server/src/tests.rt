@@ -1,0 +1,3 @@
+mod one_link;
+mod outcomes;
+mod stopper;
