@@ -11,4 +11,4 @@ returns-clause-goes c =
     let talk = c.args.talk.now.value in
     let v = c.self.view_is in
     subst (λ (a : ContextValue). Goes link a (record { demi = c.self.inside.demi.now; caller = c.self.inside.caller; number = c.self.inside.number; ledger = c.drew.result.value; seen = c.self.inside.seen.value; begun = c.self.inside.begun })) v
-    (drew_goes (record { demi = c.self.inside.demi.now; caller = c.self.inside.caller; number = c.self.inside.number; ledger = c.self.inside.ledger.value; seen = c.self.inside.seen.value; begun = c.self.inside.begun }) (record { demi = c.self.inside.demi.now; caller = c.self.inside.caller; number = c.self.inside.number; ledger = c.drew.result.value; seen = c.self.inside.seen.value; begun = c.self.inside.begun }) link talk refl refl (subst (λ (a : ContextValue). of_link link a.ledger.draws ≡ numbered link 0 talk.kept.drawn) (sym v) c.requires) refl (c.drew.ensures ∙ ap (λ (e : Entry). after_draw_of e talk) c.of_link.ensures))
+    (drew_goes (record { demi = c.self.inside.demi.now; caller = c.self.inside.caller; number = c.self.inside.number; ledger = c.self.inside.ledger.value; seen = c.self.inside.seen.value; begun = c.self.inside.begun }) (record { demi = c.self.inside.demi.now; caller = c.self.inside.caller; number = c.self.inside.number; ledger = c.drew.result.value; seen = c.self.inside.seen.value; begun = c.self.inside.begun }) link talk refl refl (subst (λ (a : ContextValue). of_link link a.ledger.draws ≡ numbered link 0 talk.kept.drawn) (sym v) c.requires.own) refl (c.drew.ensures ∙ ap (λ (e : Entry). after_draw_of e talk) c.of_link.ensures))
