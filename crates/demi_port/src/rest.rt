@@ -4,12 +4,17 @@ ghost use Rattle.std.specs.Prelude.{◌≡◌};
 use crate::device_seat::DeviceSeat;
 use crate::pass::PortPass;
 use crate::port::Port;
-use demi_bell::{Bells, SPINS, YIELDS};
+use demi_bell::{Bells, SPINS};
 use demi_port_core::Law;
 use std::alloc::Global;
 use std::hint::spin_loop;
 use std::sync::{Arc, Wait};
 use std::thread::yield_now;
+
+/// How often a device lets other threads run before it sleeps: less often than a caller does (`demi_bell::YIELDS`). Where threads are
+/// more than processors, most of those that yield are devices, and each turn that they get for nothing is another's. With less than
+/// some 20 a device falls asleep between two operations of one caller.
+const DEVICE_YIELDS: u32 = 40;
 
 impl<L: Law> Port<L> {
     /// From now on a finish rings these bells, which several ports may share: so a caller of many ports sleeps at one bell. The
@@ -41,7 +46,7 @@ impl<L: Law> Port<L> {
         requires port { _seat.old.port ≡ self.now }
         ensures { _seat.new ≡ _seat.old }
     {
-        for look in 0..SPINS + YIELDS {
+        for look in 0..SPINS + DEVICE_YIELDS {
             if self.tables.has_rung() {
                 return;
             }
