@@ -1,5 +1,5 @@
 -- What a step of a context's ledger does to what is due, and that the context stays sound.
-use Rattle.std.proofs.Common.{◌≡◌, ◌≢◌, ℕ, zero, suc, ◌+◌, ◌<◌, ◌≤◌, Bool, true, false, cond, List, [], ◌∷◌, ◌++◌, length, get_or, refl, ap, sym, subst, ◌∙◌, inl, inr, arith}
+use Rattle.std.proofs.Common.{◌≡◌, ◌≢◌, ℕ, zero, suc, ◌+◌, ◌<◌, ◌≤◌, Bool, cond, List, [], ◌∷◌, length, get_or, refl, ap, sym, subst, ◌∙◌, inl, inr, arith}
 use Rattle.std.specs.Prelude.{◌==◌}
 use Rattle.std.proofs.lemmas.Bool.{cases_eq, eq-eqb, ne_eqb}
 use Rattle.demi_pdpix.specs.Owing.{IsDue, Owes, due_at, one_more_at, same_kind}
@@ -8,11 +8,13 @@ use Rattle.demi_pdpix.specs.declared.kind.PortKind.{PortKind}
 use Rattle.demi_pdpix.specs.declared.kind.PortKind.TheVariants.{Memory, Service, Journal, Receiving, Sending, Nowhere}
 use Rattle.demi_port.specs.declared.redeem.Redeem.{Redeem}
 use Rattle.demi_port.specs.declared.redeem.Redeem.TheVariants.{NotYet, Ready, Spent, Unknown}
+use Rattle.demi_served.specs.Alone.{AsksAll}
 use Rattle.demi_link.specs.Events.{settled}
 use Rattle.demi_link.specs.Sights.{Due, nothing_due}
 use Rattle.demi_server.specs.ContextLedgers.{LedgerValue, due_of, no_ledger, noted_for}
 use Rattle.demi_server.specs.ContextPorts.{Caller, OwesLess, OwesMore, OwesSame, Whole, more_at}
-use Rattle.demi_server.specs.ContextSights.{IsSound, due_at_ports, sum_below}
+use Rattle.demi_server.specs.ContextSights.{IsSound, due_at_ports, sum_below, worker_at}
+use Rattle.demi_server.proofs.ContextAsks.{asks_first, asks_same}
 use Rattle.demi_server.proofs.ContextOwing.{along, none_more}
 use Rattle.demi_server.proofs.ContextSubmits.{as_many}
 
@@ -139,28 +141,31 @@ module _ (links link : ℕ) (l m : LedgerValue) (x : Due) (e : m.dues ≡ (link,
 
 -- A context stays sound.
 module _ (d : Whole) (c e : Caller) (number links drawn : ℕ) (l m : LedgerValue) (sound : IsSound d c number links drawn l) (of : IsOf d e) where
-  pub sound_same : OwesSame c e → m.draws ≡ l.draws → ((kind : PortKind) → due_at_ports links l kind ≡ due_at_ports links m kind) → IsSound d e number links drawn m
-  sound_same owes draws dues = record {
+  pub sound_same : OwesSame c e → e.service.submitted ≡ c.service.submitted → m.draws ≡ l.draws → ((kind : PortKind) → due_at_ports links l kind ≡ due_at_ports links m kind) → IsSound d e number links drawn m
+  sound_same owes unasked draws dues = record {
     of = of;
     count = sound.count;
     numbers = ap length draws ∙ sound.numbers;
     due = along number (due_at_ports links l) (due_at_ports links m) e dues (owes number (due_at_ports links l) sound.due);
+    asks = asks_same c e l m unasked draws sound.asks;
   }
 
-  pub sound_more : (kind : PortKind) (now : ℕ) → OwesMore kind c e → length m.draws ≡ now → ((k : PortKind) → one_more_at kind (due_at_ports links l) k ≡ due_at_ports links m k) → IsSound d e number links now m
-  sound_more kind now owes draws dues = record {
+  pub sound_more : (kind : PortKind) (now : ℕ) → OwesMore kind c e → AsksAll (worker_at e m) → length m.draws ≡ now → ((k : PortKind) → one_more_at kind (due_at_ports links l) k ≡ due_at_ports links m k) → IsSound d e number links now m
+  sound_more kind now owes asks draws dues = record {
     of = of;
     count = sound.count;
     numbers = draws;
     due = along number (one_more_at kind (due_at_ports links l)) (due_at_ports links m) e dues (owes number (due_at_ports links l) sound.due);
+    asks = asks;
   }
 
-  pub sound_less : (kind : PortKind) (s : ℕ) → OwesLess kind s c e → m.draws ≡ l.draws → ((k : PortKind) → due_at_ports links l k ≡ more_at kind s (due_at_ports links m) k) → IsSound d e number links drawn m
-  sound_less kind s owes draws dues = record {
+  pub sound_less : (kind : PortKind) (s : ℕ) → OwesLess kind s c e → e.service.submitted ≡ c.service.submitted → m.draws ≡ l.draws → ((k : PortKind) → due_at_ports links l k ≡ more_at kind s (due_at_ports links m) k) → IsSound d e number links drawn m
+  sound_less kind s owes unasked draws dues = record {
     of = of;
     count = sound.count;
     numbers = ap length draws ∙ sound.numbers;
     due = owes number (due_at_ports links m) (along number (due_at_ports links l) (more_at kind s (due_at_ports links m)) c dues sound.due);
+    asks = asks_same c e l m unasked draws sound.asks;
   }
 
 -- with the same tokens due
@@ -185,12 +190,13 @@ none_due_first links d (Receiving k) = refl
 none_due_first links d (Sending k) = refl
 none_due_first links d Nowhere = refl
 
-pub sound_first : (d : Whole) (c : Caller) (number links : ℕ) (l : LedgerValue) → l ≡ no_ledger → (length d.rx ≡ links) × (length d.tx ≡ links) × (links ≤ 16) → Owes d number [] c → IsSound d c number links 0 l
-sound_first d c number links l is count owes = subst (IsSound d c number links 0) (sym is) (record {
+pub sound_first : (d : Whole) (c : Caller) (number links : ℕ) (l : LedgerValue) → l ≡ no_ledger → (length d.rx ≡ links) × (length d.tx ≡ links) × (links ≤ 16) → Owes d number [] c → c.service.submitted ≡ [] → IsSound d c number links 0 l
+sound_first d c number links l is count owes new = subst (IsSound d c number links 0) (sym is) (record {
   of = owes.0;
   count = count;
   numbers = refl;
   due = along number (due_at d []) (due_at_ports links no_ledger) c (none_due_first links d) owes.1;
+  asks = asks_first c no_ledger new refl;
 })
 
 -- and where nothing is due at the end, nothing is outstanding

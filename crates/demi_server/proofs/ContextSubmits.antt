@@ -79,10 +79,10 @@ module _ (d : Whole) (port k : ℕ) (c e : Caller) (are : AreAt c.tx d.tx) (at :
       (only_tx FoundNone k c e s.0 there s.1, changed_here FoundNone k c.tx e.tx there s.1 (λ a b. b ≡ a) (λ p q h. looked_side p q h.only), none_owes (Sending k) c e s)
 
 -- a pass of a port that stands on a heap, and one of a log's
-rx_some : Caller → RxPass
+pub rx_some : Caller → RxPass
 rx_some c = record { port = c.memory.port; number = 0; seen = 0; submitted = []; redeemed = []; notes = 0; learnt = 0; clock = 0; looks = []; owes = 0; heard = []; trail = []; floor = 0 }
 
-tx_some : Caller → TxPass
+pub tx_some : Caller → TxPass
 tx_some c = record { port = c.memory.port; number = 0; seen = 0; submitted = []; redeemed = []; notes = 0; learnt = 0; clock = 0; looks = []; owes = 0; heard = []; trail = []; floor = 0 }
 
 log_some : (ps : List LogPass) → 0 < length ps → LogPass

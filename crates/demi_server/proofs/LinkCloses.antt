@@ -1,23 +1,21 @@
 -- What a link that was served comes to where its ports are closed.
-use Rattle.std.proofs.Common.{◌≡◌, ◌≢◌, ℕ, ◌+◌, ◌<◌, ◌≤◌, ◌⊎◌, Bool, true, false, List, [], ◌∷◌, ◌++◌, Some, None, Option, IfSome, length, map, refl, arith, ◌∙◌, ap, sym, subst, inl, inr, append-nil, append_assoc, length-append}
+use Rattle.std.proofs.Common.{◌≡◌, ℕ, Bool, true, false, List, [], ◌∷◌, ◌++◌, Some, None, Option, length, map, refl, arith, ◌∙◌, ap, sym, subst, append-nil, length-append}
 use Rattle.std.specs.Prelude.{slice_get}
 use Rattle.std.specs.Io.KnownBytes.{append_known, prepend_known}
-use Rattle.std.specs.List.{AllByRecursion}
 use Rattle.demi_device.specs.Serving.{trail}
 use Rattle.demi_heap.specs.Seen.{HalfValue}
-use Rattle.demi_port.specs.Seen.{known_at, known_by, says}
+use Rattle.demi_port.specs.Seen.{known_at}
 use Rattle.demi_port_core.specs.History.{Among, Each}
 use Rattle.demi_port_core.specs.Trails.{Behind, StartsWith, told_at as told_there}
-use Rattle.demi_port_core.specs.declared.trail.Trail.{Trail}
-use Rattle.demi_spec.specs.Input.{Asked, asked}
+use Rattle.demi_spec.specs.Input.{Asked, Parses, asked}
 use Rattle.demi_spec.specs.Reply.{spelling}
 use Rattle.demi_streamq.specs.Receiving as rx
 use Rattle.demi_streamq.specs.Receiving.{RxAdmits}
-use Rattle.demi_streamq.specs.RxGoing.{RxGoes, RxValue}
+use Rattle.demi_streamq.specs.RxGoing.{RxValue}
 use Rattle.demi_streamq.specs.RxKept.{HasEnd, IsEnd, NoneLeft, all_bytes, bytes_of}
 use Rattle.demi_streamq.specs.Sending as tx
 use Rattle.demi_streamq.specs.Sending.{array_bytes}
-use Rattle.demi_streamq.specs.TxGoing.{TxGoes, TxValue}
+use Rattle.demi_streamq.specs.TxGoing.{TxValue}
 use Rattle.demi_streamq.specs.TxKept.{all_written}
 use Rattle.demi_streamq.specs.declared.rx_op.RxOp.{RxOp}
 use Rattle.demi_streamq.specs.declared.rx_op.RxOp.TheVariants as rx_op
@@ -26,21 +24,21 @@ use Rattle.demi_streamq.specs.declared.rx_out.RxOut.TheVariants as out
 use Rattle.demi_streamq.specs.declared.rx_told.RxTold.{RxTold}
 use Rattle.demi_streamq.specs.declared.tx_op.TxOp.{TxOp}
 use Rattle.demi_streamq.specs.declared.tx_op.TxOp.TheVariants as tx_op
-use Rattle.demi_streamq.specs.declared.tx_out.TxOut.{TxOut}
-use Rattle.demi_served.specs.Links.{LinkEnded, LinkPorts}
 use Rattle.demi_served.specs.Reading.{Popped, RxEnd, pieces_in}
 use Rattle.demi_served.specs.Talks.{LinkRun, Talk}
 use Rattle.demi_served.specs.Writing.{TxEnd, WroteAll, WroteBefore, texts_of}
-use Rattle.demi_link.specs.Ends.{IsDone, IsKnown}
-use Rattle.demi_link.specs.Fitting.{Fits, ops_of, places}
+use Rattle.demi_link.specs.Ends.{IsDone}
+use Rattle.demi_link.specs.Fitting.{Keeps, ops_of, places}
 use Rattle.demi_link.specs.Heard.{LastCame}
 use Rattle.demi_link.specs.Sights.{Sight}
 use Rattle.demi_link.specs.Talks.{DeskValue}
 use Rattle.demi_link.specs.declared.phase.Cause.{Cause}
-use Rattle.demi_link.specs.declared.phase.Phase.TheVariants.{Over}
-use Rattle.demi_server.specs.LinkClosed.{EndedAs, LinkMoved, LinkResult, PortsClosed, WasServed, is_read_out, ports_of}
+use Rattle.demi_server.specs.LinkClosed.{LinkMoved, LinkResult, PortsClosed, WasServed, is_read_out, ports_of}
+use Rattle.demi_server.specs.TextEnds.{ending_of}
 use Rattle.demi_server.proofs.EndsTold.{end_told}
 use Rattle.demi_server.proofs.Entries.{heard_is, knew_before, submitted_before}
+use Rattle.demi_server.proofs.NeverBegan.{keeps_of, over_of}
+use Rattle.demi_server.proofs.TextEnds.{ends_at}
 
 read_out_left : (left : Option (List ℕ)) → is_read_out left ≡ true → NoneLeft left
 read_out_left None e = tt
@@ -57,10 +55,6 @@ no_texts [] = refl
 no_texts (tx_op.Push sga ∷ xs) = ap (λ (l : List (List ℕ)). array_bytes sga ∷ l) (no_texts xs)
 no_texts (tx_op.Close ∷ xs) = no_texts xs
 no_texts (tx_op.Stop ∷ xs) = no_texts xs
-
--- what two beginnings of one list have in common
-both_begin : {A : Type 0} (all first second : List A) → StartsWith all first → StartsWith first second → StartsWith all second
-both_begin all first second a b = (b.0 ++ a.0, a.1 ∙ ap (λ l. l ++ a.0) b.1 ∙ append_assoc second b.0 a.0)
 
 same_length : {A : Type 0} (all first : List A) → StartsWith all first → StartsWith first all → first ≡ all
 same_length all first a b =
@@ -116,10 +110,13 @@ module _ {I O : Type 0} (taken : I → ℕ) (left : I → Option (List ℕ)) (re
   tx_trail : p.tx_end.trail ≡ trail tx.told tx_new.finished
   tx_trail = p.tx_closed.ends.trail ∙ p.tx_closed.agrees.tells
 
+  kept : Keeps s d
+  kept = keeps_of ports s d c served
+
   texts : texts_of tx_new.served ≡ map spelling d.talk.kept.replies
   texts =
       ap texts_of (sym tx_heard ∙ heard_is p.tx_id p.tx_seat p.tx_passes p.tx_end p.tx_closed.ends s.number p.tx_only p.tx_pass p.tx_mine.1 p.tx_mine.0 tx_op.Stop s.tx p.tx_added)
-      ∙ no_texts (ops_of s.tx.submitted) ∙ served.fits.keeps.writes.texts
+      ∙ no_texts (ops_of s.tx.submitted) ∙ kept.writes.texts
 
   module _ (popped : Popped p.rx_end.heard p.rx_end.trail d.talk.outs) (before : WroteBefore p.tx_end.heard p.tx_end.trail) (all : IsDone c → WroteAll p.tx_end.heard p.tx_end.trail)
       (receives : RxEnd rx_new.served rx_new.finished) (sends : TxEnd tx_new.served tx_new.finished)
@@ -202,7 +199,7 @@ module _ {I O : Type 0} (taken : I → ℕ) (left : I → Option (List ℕ)) (re
         receives = receives;
         sends = sends;
         asks = refl;
-        fits = served.fits.keeps.fits;
+        fits = kept.fits;
         before = subst (λ (h : List TxOp). WroteBefore h (trail tx.told tx_new.finished)) tx_heard (subst (λ (t : List (ℕ × ℕ)). WroteBefore p.tx_end.heard t) tx_trail before);
       };
       replies = refl;
@@ -212,6 +209,11 @@ module _ {I O : Type 0} (taken : I → ℕ) (left : I → Option (List ℕ)) (re
         (whole done).1 ∙ ap length (sym (same_at ended refl done)) ∙ ap length (sym asked_same),
         subst (λ (h : List TxOp). WroteAll h (trail tx.told tx_new.finished)) tx_heard (subst (λ (t : List (ℕ × ℕ)). WroteAll p.tx_end.heard t) tx_trail (all done)),
       );
+      to_end = λ done. record {
+        requests = d.talk.handed;
+        parses = subst (λ (l : List ℕ). Parses d.talk.handed (ending_of c) ended l) same_read
+            (ends_at ports s d ended (λ came. left_read_out (left rx_new.source) (none_left came)) c (over_of ports s d c served done) done);
+      };
     }
 
     pub closed_link : (l : LinkRun) × (t : Talk) × LinkMoved taken left read_faults written write_faults (rx_old.source, tx_old.sink) (rx_new.source, tx_new.sink) l × LinkResult c d l (ports_of rx_new tx_new) t

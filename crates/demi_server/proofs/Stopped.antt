@@ -8,10 +8,7 @@ use Rattle.demi_pdpix.specs.Closing.{AllBack, AllBackAt}
 use Rattle.demi_pdpix.specs.Owing.{IsDue, Owes}
 use Rattle.demi_pdpix.specs.Seen.{AreAt, AreNewCallers, CallerValue, DemiId, Pair}
 use Rattle.demi_pdpix.proofs.Outstanding.{new_owes}
-use Rattle.demi_store.specs.Laws.{StoreBasis}
 use Rattle.demi_server.specs.Gathering.{AreBackAt, IsBackAt}
-use Rattle.demi_server.specs.Stopping.{StaysCalm, StopperValue}
-use Rattle.demi_server.specs.Working.{IsCrewDone}
 
 -- a whole that was just made for one caller
 pub new_alone : {D T B : Type 0} (d : DemiId B) (cs : List (CallerValue D T B)) → length cs ≡ 1 → AreNewCallers d 0 cs → IsAlone d cs
@@ -56,14 +53,6 @@ at_many [] (x ∷ xs) are = absurd are
 at_many (p ∷ ps) [] are = absurd are
 at_many (p ∷ ps) (x ∷ xs) are = ap suc (at_many ps xs are.1)
 
-one_too_many : {A : Type 0} (y c : A) (ys cs : List A) → cs ≡ (y ∷ ys) ++ c ∷ [] → length cs ≡ 1 → ⊥
-one_too_many y c ys cs is one = let n = ap length is ∙ length-append (y ∷ ys) (c ∷ []) in absurd (omega (arith, n, one))
-
--- the one caller was taken out
-pub popped_alone : {D T B : Type 0} (d : DemiId B) (cs left : List (CallerValue D T B)) (c : CallerValue D T B) → IsAlone d cs → cs ≡ left ++ c ∷ [] → (left ≡ []) × Owes d 0 [] c
-popped_alone d cs [] c one is = (refl, subst (Owes d 0 []) (ap (λ l. get_or l 0 c) (sym one.1 ∙ is)) one.2)
-popped_alone d cs (y ∷ ys) c one is = absurd (one_too_many y c ys cs is (ap length one.1))
-
 one_of : {A : Type 0} (P : A → Type 0) (x : A) → P x → All P (x ∷ [])
 one_of P x p zero d low = p
 one_of P x p (suc k) d low = absurd (omega (arith, low))
@@ -71,10 +60,3 @@ one_of P x p (suc k) d low = absurd (omega (arith, low))
 -- what holds of one holds of all of one
 pub all_of_one : {A : Type 0} (P : A → Type 0) (xs : List A) (x : A) → xs ≡ x ∷ [] → P x → All P xs
 all_of_one P xs x is p = subst (All P) (sym is) (one_of P x p)
-
--- the one of a crew is calm at its end
-pub crew_calm : (d : DemiId StoreBasis) (old new left : List StopperValue) (s t : StopperValue) → old ≡ s ∷ [] → s.demi ≡ d → IsCrewDone StaysCalm StaysCalm old new → new ≡ left ++ t ∷ [] → (left ≡ []) × Owes d 0 [] t.caller
-crew_calm d old new [] s t was demi done is =
-    let first = done.first s in let a = first.1 in let b = first.2 in
-    (refl, subst (λ x. Owes d 0 [] x.caller) (ap (λ l. get_or l 0 s) is) (subst (λ z. Owes z 0 [] (get_or new 0 s).caller) (b.0 ∙ a.0 ∙ ap (λ l. (get_or l 0 s).demi) was ∙ demi) b.1))
-crew_calm d old new (y ∷ ys) s t was demi done is = absurd (one_too_many y t ys new is (done.as_many ∙ ap length was))

@@ -1,10 +1,13 @@
 -- What a contract sees of a worker's context, and what its links see of it.
 use Rattle.std.specs.Prelude.{◌≡◌, ◌≢◌, ℕ, zero, suc, ◌+◌, ◌*◌, ◌≤◌, List, length}
+use Rattle.demi_port.specs.Seen.{known_by}
 use Rattle.demi_sched.specs.declared.seen.Seen.{Seen}
 use Rattle.demi_pdpix.specs.Owing.{IsDueAt}
 use Rattle.demi_pdpix.specs.Seen.{IsOf}
 use Rattle.demi_pdpix.specs.declared.kind.PortKind.{PortKind}
 use Rattle.demi_pdpix.specs.declared.kind.PortKind.TheVariants.{Memory, Service, Journal, Receiving, Sending, Nowhere}
+use Rattle.demi_served.specs.Alone.{AsksAll}
+use Rattle.demi_served.specs.Keeps.{Worker}
 use Rattle.demi_link.specs.Sights.{LeavesBe, Sight, side_of}
 use Rattle.demi_server.specs.ContextLedgers.{LedgerValue, due_of, out_of}
 use Rattle.demi_server.specs.ContextPorts.{Caller, Whole, side_at}
@@ -57,10 +60,16 @@ due_at_ports links l (Receiving k) = (due_of l k).rx
 due_at_ports links l (Sending k) = (due_of l k).tx
 due_at_ports links l Nowhere = 0
 
--- A context keeps this: its caller is one of the whole, as many numbers were drawn as it counts, and what is outstanding of
--- its caller at each port are the tokens that are due of its links.
+-- the worker: what its caller's pass of the store's port submitted and knows, and for what its numbers were drawn
+abbrev pub worker_at : Caller → LedgerValue → Worker
+worker_at c l = record { submitted = c.service.submitted; known = known_by c.service; draws = l.draws }
+
+-- A context keeps this: its caller is one of the whole, as many numbers were drawn as it counts, what is outstanding of its
+-- caller at each port are the tokens that are due of its links, and with each number that was drawn for a request that asks the
+-- store it asked just that, and nothing else.
 pub record IsSound (d : Whole) (c : Caller) (number links drawn : ℕ) (l : LedgerValue) : Type 0 where
   pub of : IsOf d c
   pub count : (length d.rx ≡ links) × (length d.tx ≡ links) × (links ≤ 16)
   pub numbers : length l.draws ≡ drawn
   pub due : IsDueAt number (due_at_ports links l) c
+  pub asks : AsksAll (worker_at c l)

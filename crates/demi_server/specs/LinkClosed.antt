@@ -1,5 +1,5 @@
 -- What a link comes to at a session's end.
-use Rattle.std.specs.Prelude.{◌≡◌, ℕ, ◌+◌, ◌≤◌, Bool, true, false, List, [], ◌∷◌, Option, Some, None, length}
+use Rattle.std.specs.Prelude.{◌≡◌, ◌⊎◌, ℕ, ◌+◌, ◌≤◌, Bool, true, false, List, [], ◌∷◌, Option, Some, None, length}
 use Rattle.std.specs.Io.KnownBytes.{append_known, prepend_known}
 use Rattle.demi_device.specs.Serving.{trail}
 use Rattle.demi_heap.specs.Seen.{HeapId}
@@ -16,18 +16,18 @@ use Rattle.demi_streamq.specs.declared.rx_op.RxOp.TheVariants as rx_op
 use Rattle.demi_streamq.specs.declared.rx_told.RxTold.{RxTold}
 use Rattle.demi_streamq.specs.declared.tx_op.TxOp.{TxOp}
 use Rattle.demi_streamq.specs.declared.tx_op.TxOp.TheVariants as tx_op
-use Rattle.demi_served.specs.Keeps.{Link}
 use Rattle.demi_served.specs.Links.{LinkEnded, LinkPorts}
 use Rattle.demi_served.specs.Talks.{LinkRun, Talk}
 use Rattle.demi_served.specs.Writing.{WroteAll}
 use Rattle.demi_link.specs.Ends.{IsDone, IsKnown}
 use Rattle.demi_link.specs.Fitting.{Fits}
-use Rattle.demi_link.specs.Linked.{IsFresh}
 use Rattle.demi_link.specs.Sights.{Sight}
 use Rattle.demi_link.specs.Talks.{DeskValue}
 use Rattle.demi_link.specs.declared.phase.Cause.{Cause}
 use Rattle.demi_link.specs.declared.phase.Phase.TheVariants.{Over}
+use Rattle.demi_worker.specs.Ending.{NeverBegan}
 use Rattle.demi_server.specs.Closed.{Added, OnlyBy, RxClosed, TxClosed}
+use Rattle.demi_server.specs.TextEnds.{ReadToEnd}
 
 -- whether nothing is left of an input, as far as it tells
 abbrev pub is_read_out : Option (List ℕ) → Bool
@@ -51,18 +51,19 @@ pub record LinkMoved {I O : Type 0} (taken : I → ℕ) (left : I → Option (Li
   pub read_faults_on : read_faults before.0 ≤ read_faults after.0
   pub write_faults_on : write_faults before.1 ≤ write_faults after.1
 
--- The link was served until it was over, and was not lost.
+-- The link was served until it was over, and was not lost; or it was refused memory before anything of it was read.
 pub record WasServed (ports : ℕ) (s : Sight) (d : DeskValue) (c : Cause) : Type 0 where
-  pub fits : Fits ports s d (Over c)
+  pub over : Fits ports s d (Over c) ⊎ NeverBegan ports s d c
   pub known : IsKnown c
 
 -- What a link that was served comes to: its talk accounts for what was read and written; and where its input came to an end
--- each request was answered and each reply was written.
+-- each request was answered, each reply was written, and what was read ends as the cause says.
 pub record LinkResult (c : Cause) (d : DeskValue) (l : LinkRun) (e : LinkPorts) (t : Talk) : Type 0 where
   pub ended : LinkEnded l e t
   pub replies : t.replies ≡ d.talk.kept.replies
   pub asks : StartsWith t.asks d.talk.kept.drawn
   pub all : IsDone c → (t.asks ≡ d.talk.kept.drawn) × (length t.replies ≡ length t.asks) × WroteAll e.pushes (trail tx.told e.wrote)
+  pub to_end : IsDone c → ReadToEnd c l
 
 -- The two ports of a link were closed: its worker's passes there, of which this was seen, then only stopped both, and no other pass did
 -- anything there.

@@ -9,19 +9,23 @@ use Rattle.demi_store.specs.Laws.{StoreBasis}
 use Rattle.demi_store.specs.declared.ask.StoreAsk.{StoreAsk}
 use Rattle.demi_store.specs.declared.op.StoreOp.TheVariants as op
 use Rattle.demi_store.specs.declared.told.StoreTold.{StoreTold}
-use Rattle.demi_served.specs.Accounts.{Accounted, LeftInLog, StoreEntry}
+use Rattle.demi_served.specs.Accounts.{Accounted, StoreEntry}
 use Rattle.demi_served.specs.Alone.{AsksAll}
 use Rattle.demi_served.specs.Links.{LinkEnded, LinkPorts}
 use Rattle.demi_served.specs.Served.{Served, Whole}
 use Rattle.demi_served.specs.Talks.{LinkRun, Run, Talk}
 use Rattle.demi_link.specs.Ends.{IsDone}
-use Rattle.demi_link.specs.Sights.{Sight, worker_of}
+use Rattle.demi_link.specs.Sights.{LeavesBe, Sight, worker_of}
 use Rattle.demi_link.specs.Talks.{DeskValue}
 use Rattle.demi_link.specs.declared.phase.Cause.{Cause}
 
 -- what a stop of the store's port says
 abbrev pub store_stop : StoreAsk
 store_stop = record { sequence = 0; op = op.Stop }
+
+-- What a worker had for this link, and has later: but for the link's two ports, others of the worker alone went on.
+abbrev pub WentOn : ℕ → Sight → Sight → Type 0
+WentOn link s t = LeavesBe link (record s { rx = t.rx; tx = t.tx }) t
 
 -- The worker has the number 0, its link has the number 0, it drew numbers for no other link, and it asked the store with each number that
 -- it drew for a request that asks it.

@@ -1,5 +1,6 @@
 // What the ends of a session's ports show: functions that do nothing.
-ghost use Rattle.std.specs.Prelude.{◌≡◌, ℕ, List, [], ◌∷◌};
+ghost use Rattle.std.specs.Prelude.{◌≡◌, ℕ, List, [], ◌∷◌, Some, slice_get};
+ghost use Rattle.demi_link.specs.Ends.{IsDone};
 ghost use Rattle.demi_link.specs.Sights.{Sight};
 ghost use Rattle.demi_link.specs.Talks.{DeskValue};
 ghost use Rattle.demi_link.specs.declared.phase.Cause.{Cause};
@@ -9,12 +10,13 @@ ghost use Rattle.demi_spec.specs.Record.{Record};
 ghost use Rattle.demi_store.specs.Laws.{StoreBasis};
 ghost use Rattle.demi_store.specs.declared.ask.StoreAsk.{StoreAsk};
 ghost use Rattle.demi_store.specs.declared.told.StoreTold.{StoreTold};
-ghost use Rattle.demi_served.specs.Accounts.{LeftInLog};
+ghost use Rattle.demi_served.specs.Accounts.{LeftInLog, StoreEntry, asked_in, standing_at_end};
+ghost use Rattle.demi_served.specs.Asking.{Puts};
 ghost use Rattle.demi_served.specs.Ends.{StoreEnd, StorePass};
 ghost use Rattle.demi_served.specs.Links.{LinkPorts};
 ghost use Rattle.demi_served.specs.Talks.{LinkRun, Talk};
 ghost use Rattle.demi_server.specs.Closed.{Added};
-ghost use Rattle.demi_server.specs.OnlyLink.{OneServed, ServesOne, store_stop};
+ghost use Rattle.demi_server.specs.OnlyLink.{OneServed, ServesOne, WentOn, store_stop};
 ghost use Rattle.demi_server.specs.LinkClosed.{LinkMoved, LinkResult, PortsClosed, WasServed, ports_of};
 ghost use Rattle.demi_streamq.specs.RxGoing.{RxValue};
 ghost use Rattle.demi_streamq.specs.TxGoing.{TxValue};
@@ -30,8 +32,9 @@ use demi_served::{
     an_only_link_is_served_in_order,
 };
 
-/// A link that was served, whose two ports its worker then stopped and where nobody else did anything: where they are closed, what was
-/// read from its source and written to its sink is accounted for by what it asked and replied.
+/// A link that was served, or was refused memory before it began, whose two ports its worker then stopped and where nobody else did anything: where they are closed, what was
+/// read from its source and written to its sink is accounted for by what it asked and replied, and where its input came to an end, what
+/// was read ends as its cause says.
 pub fn a_served_link_closes<I: Source, O: Sink>()
     ensures { (ports : ℕ) (s : Sight) (d : DeskValue) (c : Cause) (rx_old rx_new : RxValue I) (tx_old tx_new : TxValue O)
         → WasServed ports s d c → PortsClosed I.taken I.left I.faults I.reads O.written O.faults s rx_old rx_new tx_old tx_new
@@ -47,13 +50,13 @@ pub fn a_served_link_closes<I: Source, O: Sink>()
     a_text_that_ended_asks_on();
 }
 
-/// One link that was served by one worker, which then stopped the store: where the store's port is closed, each reply and each record is
+/// One link that was served by one worker, which may have gone on with others, and then stopped the store: where the store's port is closed, each reply and each record is
 /// accounted for, and where the log tells its bytes the session served as the store on one thread does.
 pub fn a_session_of_one_link_closes()
-    ensures { (ports : ℕ) (s : Sight) (d : DeskValue) (c : Cause) (pass : StorePass) (id : PortId StoreBasis) (seat : DeviceValue StoreAsk StoreTold StoreBasis) (end : StoreEnd)
+    ensures { (ports : ℕ) (s now : Sight) (d : DeskValue) (c : Cause) (pass : StorePass) (id : PortId StoreBasis) (seat : DeviceValue StoreAsk StoreTold StoreBasis) (end : StoreEnd)
         (l : LinkRun) (e : LinkPorts) (t : Talk) (records : List Record)
-        → WasServed ports s d c → ServesOne s d → pass.number ≡ 0 → Added store_stop s.store pass → IsEndOf id seat (pass ∷ []) end → seat.passes ≡ 1
-        → LinkResult c d l e t → LeftInLog s.base (says end.history) end.trail records → OneServed c s.base end.history end.trail l e records }
+        → WasServed ports s d c → WentOn d.link s now → ServesOne now d → pass.number ≡ 0 → Added store_stop now.store pass → IsEndOf id seat (pass ∷ []) end → seat.passes ≡ 1
+        → LinkResult c d l e t → LeftInLog now.base (says end.history) end.trail records → (o : OneServed c now.base end.history end.trail l e records) × (o.talk ≡ t) }
 {
     a_worker_keeps();
     a_link_keeps();
@@ -64,3 +67,10 @@ pub fn a_session_of_one_link_closes()
     an_only_link_is_served_in_order();
     a_link_reads_and_writes();
 }
+
+/// A session of one link whose input came to an end: the disk failed no append of its log.
+pub fn a_link_that_was_done_left_no_torn_entry()
+    ensures { (c : Cause) (b : StoreBasis) (history : List StoreEntry) (trail : List (ℕ × StoreTold)) (l : LinkRun) (e : LinkPorts) (records : List Record)
+        → OneServed c b history trail l e records → IsDone c → (p : ℕ) (r : Record)
+        → (standing_at_end b (says history) trail).fault ≡ Some p → slice_get (asked_in (says history)) p ≡ Some (Puts r) → ⊥ }
+{}

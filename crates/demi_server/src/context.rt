@@ -2,14 +2,17 @@
 ghost use Rattle.std.specs.Prelude.{◌≡◌, ℕ, ◌≤◌, ◌<◌, [], length};
 ghost use Rattle.demi_pdpix.specs.Owing.{Owes};
 ghost use Rattle.demi_pdpix.specs.Seen.{IsOf};
-ghost use Rattle.demi_link.specs.Sights.{nothing_due};
+ghost use Rattle.demi_link.specs.Sights.{nothing_due, worker_of};
+ghost use Rattle.demi_served.specs.Alone.{AsksAll};
 ghost use Rattle.demi_server.specs.ContextLedgers.{due_of, no_ledger};
+ghost use Rattle.demi_server.specs.ContextSights.{sight_of};
 
 mod calls;
 mod ledger;
 mod notes;
 mod ports;
 mod scanning;
+mod serving;
 mod tries;
 
 use demi_device::Mark;
@@ -18,6 +21,7 @@ use demi_sched::Seen;
 use demi_store::StoreLaw;
 pub use ledger::Ledger;
 use notes::{no_calls, nothing_seen};
+pub(crate) use ports::{receiving, sending};
 use std::collections::LinkedList;
 use std::marker::Model;
 
@@ -46,7 +50,8 @@ impl<'h> Model for Context<'h> {
 }
 
 impl<'h> Context<'h> {
-    /// A worker with this number and caller, of a whole with so many links. The caller has nothing outstanding.
+    /// A worker with this number and caller, of a whole with so many links. The caller has nothing outstanding, and asked the store
+    /// nothing.
     pub fn make(
         demi: &'h Demi<StoreLaw>,
         caller: Caller<StoreLaw>,
@@ -55,6 +60,7 @@ impl<'h> Context<'h> {
     ) -> Context<'h>
         requires links { (length demi.now.rx ≡ links) × (length demi.now.tx ≡ links) × (links ≤ 16) }
         requires owes { Owes demi.now number [] caller }
+        requires new { caller.service.submitted ≡ [] }
         ensures { result ≡ record { demi = demi.now; caller = caller; number = number; ledger = no_ledger; seen = []; begun = 0 } }
     {
         Context {
@@ -69,10 +75,12 @@ impl<'h> Context<'h> {
         }
     }
 
-    /// The caller. Where no token of a link is due, it has nothing outstanding.
+    /// The caller. With each number that was drawn for a request that asks the store it asked just that, and nothing else. Where no token
+    /// of a link is due, it has nothing outstanding.
     pub fn parts(self) -> Caller<StoreLaw>
         ensures caller { result ≡ self.entry.caller }
         ensures of { IsOf self.entry.demi result }
+        ensures asks { (link : ℕ) → AsksAll (worker_of (sight_of self.entry link)) }
         ensures owes { ((link : ℕ) → link < length self.entry.demi.rx → due_of self.entry.ledger link ≡ nothing_due) → Owes self.entry.demi self.entry.number [] result }
     {
         let Context {

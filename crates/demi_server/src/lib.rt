@@ -19,24 +19,38 @@ mod closing;
 mod context;
 mod crew;
 mod devices;
+mod ending;
+mod hand;
+mod holding;
 mod home;
 mod job;
 mod linking;
+mod logs;
 mod opening;
 mod outcome;
+mod over;
 mod parts;
 mod plan;
+mod reading;
 mod running;
 mod serving;
+mod shutting;
 mod station;
+mod stopping;
 #[cfg(test)]
 mod tests;
+mod whole;
 
 pub use both::Both;
-pub use closing::{a_served_link_closes, a_session_of_one_link_closes};
+pub use closing::{
+    a_link_that_was_done_left_no_torn_entry, a_served_link_closes, a_session_of_one_link_closes,
+};
 pub use context::{Context, Ledger};
 pub use crew::work_all;
+pub use ending::a_session_of_one_link_ends;
 pub use job::{Crew, Job};
 pub use outcome::{Outcome, outcome_of};
 pub use plan::Plan;
+pub use reading::a_served_link_made_only_due_reads;
 pub use station::Station;
+pub use whole::{SessionEnd, session};

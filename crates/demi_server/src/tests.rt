@@ -1,3 +1,2 @@
-mod one_link;
 mod outcomes;
-mod stopper;
+mod sessions;

@@ -12,6 +12,7 @@ use demi_heap::{AppBuf, NoSlot};
 use demi_link::{Calls, NoToken, Talk};
 use demi_port::Redeem;
 use demi_port_core::QToken;
+use demi_served::an_only_link_is_served_in_order;
 use demi_sga::{AppSga, DevSga, LentSga, SgaRefusal};
 use demi_store::{StoreLaw, StoreOp};
 use demi_streamq::{RxLaw, TxLaw};
@@ -108,6 +109,7 @@ impl<'h> Calls for Context<'h> {
             return None;
         }
         self.drawn += 1;
+        an_only_link_is_served_in_order();
         self.ledger = drew(&of_link(&self.ledger, link), talk);
         Some(self.drawn)
     }
@@ -124,6 +126,7 @@ impl<'h> Calls for Context<'h> {
         match ask_at(demi, &mut self.caller, sequence, op) {
             Ok(token) => {
                 self.drawn = sequence;
+                an_only_link_is_served_in_order();
                 let numbered = drew(&of_link(&given, link), talk);
                 self.ledger = asked(&of_link(&numbered, link), token);
                 Ok((token, sequence))

@@ -1,8 +1,10 @@
-use Rattle.std.proofs.Common.{◌≡◌, ℕ, [], ◌∷◌, ◌+◌, ◌<◌, ap, arith, length, length-append, refl, subst, sym, ◌∙◌}
+use Rattle.std.proofs.Common.{◌≡◌, ℕ, [], ◌∷◌, ◌+◌, ap, arith, length, length-append, refl, subst, sym, ◌∙◌}
 use Rattle.demi_pdpix.specs.declared.kind.PortKind.TheVariants.{Service}
 use Rattle.demi_served.specs.Keeps.{numbered, of_link}
+use Rattle.demi_link.specs.Sights.{Side}
 use Rattle.demi_server.specs.ContextLedgers.{Entry, LedgerValue, after_ask_of, after_draw_of, after_giving}
 use Rattle.demi_server.specs.ContextSights.{ContextValue, Goes}
+use Rattle.demi_server.proofs.ContextAsks.{asks_asked}
 use Rattle.demi_server.proofs.ContextGoing.{asked_goes}
 use Rattle.demi_server.proofs.ContextSteps.{same_dues, sound_more, sound_same, store_more}
 use Rattle.demi_server.proofs.context.calls.ContextCalls.ask.Goals as goal
@@ -20,6 +22,8 @@ invariant_of-self-in-Ok c =
     let is : m ≡ after_ask_of (record { ledger = after_draw_of (record { ledger = after_giving (record { ledger = l; link = link }) op; link = link }) talk; link = link }) token =
     c.asked.ensures ∙ ap (λ (e : Entry). after_ask_of e token) c.of_link-in-Ok-2.ensures ∙ ap (λ (g : LedgerValue). after_ask_of (record { ledger = g; link = link }) token) drawn in
     sound_more c.self.inside.demi.now c.self.inside.caller c.ask_at.new.caller c.self.inside.number c.self.inside.links c.self.inside.drawn l m c.self.invariant c.ask_at.ensures.of Service (c.self.inside.drawn + 1) c.in-Ok.ensures.ok.2
+    (asks_asked c.self.inside.caller c.ask_at.new.caller l m link (length talk.kept.drawn) talk.request op c.in-Ok.ensures.ok.1.0 token.token.0 (c.self.inside.drawn + 1) c.an_only_link_is_served_in_order.ensures.asked
+    (ap (λ (n : ℕ). n + 1) (sym c.self.invariant.numbers)) c.in-Ok.ensures.ok.1.1 (ap (λ (x : LedgerValue). x.draws) is) c.requires.asks c.self.invariant.asks)
     (let longer = ap (λ (x : LedgerValue). length x.draws) is in let more = length-append l.draws (record { link = link; index = length talk.kept.drawn; request = talk.request } ∷ []) in let n = c.self.invariant.numbers in omega (arith, longer, more, n))
     (store_more c.self.inside.links link l m _ (ap (λ (x : LedgerValue). x.dues) is) (let h = c.if-link-self.false in omega (arith, h)) refl refl refl)
 
@@ -44,5 +48,5 @@ pub invariant_of-self-in-Err : goal.invariant_of-self-in-Err
 invariant_of-self-in-Err c =
     let l = c.self.inside.ledger.value in
     let m = c.no_token-in-Err.result.value in
-    sound_same c.self.inside.demi.now c.self.inside.caller c.ask_at.new.caller c.self.inside.number c.self.inside.links c.self.inside.drawn l m c.self.invariant c.ask_at.ensures.of c.in-Err.ensures.err.2
+    sound_same c.self.inside.demi.now c.self.inside.caller c.ask_at.new.caller c.self.inside.number c.self.inside.links c.self.inside.drawn l m c.self.invariant c.ask_at.ensures.of c.in-Err.ensures.err.2 (ap (λ (s : Side _ _). s.submitted) c.in-Err.ensures.err.1)
     (ap (λ (x : LedgerValue). x.draws) c.no_token-in-Err.ensures) (same_dues c.self.inside.links l m (ap (λ (x : LedgerValue). x.dues) c.no_token-in-Err.ensures))

@@ -1,5 +1,6 @@
-use Rattle.std.proofs.Common.{◌≡◌, ◌+◌, ◌-◌, ◌≤◌, ap, arith, inl, inr, refl, subst, sym, ◌∙◌}
+use Rattle.std.proofs.Common.{◌≡◌, ◌+◌, ◌-◌, ◌≤◌, ap, arith, refl, subst, sym, ◌∙◌}
 use Rattle.demi_pdpix.specs.declared.kind.PortKind.TheVariants.{Receiving}
+use Rattle.demi_link.specs.Sights.{Side}
 use Rattle.demi_link.specs.Events.{TriedBy, settled}
 use Rattle.demi_server.specs.ContextPorts.{side_at}
 use Rattle.demi_streamq.specs.Receiving.{IsFrom, RxAdmits}
@@ -19,7 +20,7 @@ invariant_of-self c =
     let due : 1 ≤ (due_of l link).rx = subst (λ (a : ContextValue). 1 ≤ (due_of a.ledger link).rx) (sym c.self.view_is) c.requires.due in
     let few : settled came ≤ 1 = settled_few came in
     let back : (due_of l link).rx - settled came + settled came ≡ (due_of l link).rx = omega (arith, due, few) in
-    sound_less c.self.inside.demi.now c.self.inside.caller c.rx_at-came.new.caller c.self.inside.number c.self.inside.links c.self.inside.drawn l m c.self.invariant c.rx_at-came.ensures.of (Receiving c.args.link) (settled came) c.rx_at-came.ensures.owes
+    sound_less c.self.inside.demi.now c.self.inside.caller c.rx_at-came.new.caller c.self.inside.number c.self.inside.links c.self.inside.drawn l m c.self.invariant c.rx_at-came.ensures.of (Receiving c.args.link) (settled came) c.rx_at-came.ensures.owes (ap (λ (s : Side _ _). s.submitted) c.rx_at-came.ensures.others.0)
     (ap (λ (x : LedgerValue). x.draws) is) (rx_fewer c.self.inside.links link l m _ (ap (λ (x : LedgerValue). x.dues) is) (settled came) refl refl back)
 
 pub returns-clause-tried : goal.returns-clause-tried

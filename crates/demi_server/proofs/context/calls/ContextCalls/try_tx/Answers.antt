@@ -1,5 +1,6 @@
-use Rattle.std.proofs.Common.{◌≡◌, ◌+◌, ◌-◌, ◌≤◌, ap, arith, inl, inr, refl, subst, sym, ◌∙◌}
+use Rattle.std.proofs.Common.{◌≡◌, ◌+◌, ◌-◌, ◌≤◌, ap, arith, refl, subst, sym, ◌∙◌}
 use Rattle.demi_pdpix.specs.declared.kind.PortKind.TheVariants.{Sending}
+use Rattle.demi_link.specs.Sights.{Side}
 use Rattle.demi_link.specs.Events.{settled}
 use Rattle.demi_server.specs.ContextLedgers.{Entry, LedgerValue, Trying, after_tx_try, due_of}
 use Rattle.demi_server.specs.ContextSights.{ContextValue}
@@ -17,5 +18,5 @@ invariant_of-self c =
     let due : 1 ≤ (due_of l link).tx = subst (λ (a : ContextValue). 1 ≤ (due_of a.ledger link).tx) (sym c.self.view_is) c.requires.due in
     let few : settled came ≤ 1 = settled_few came in
     let back : (due_of l link).tx - settled came + settled came ≡ (due_of l link).tx = omega (arith, due, few) in
-    sound_less c.self.inside.demi.now c.self.inside.caller c.tx_at-came.new.caller c.self.inside.number c.self.inside.links c.self.inside.drawn l m c.self.invariant c.tx_at-came.ensures.of (Sending c.args.link) (settled came) c.tx_at-came.ensures.owes
+    sound_less c.self.inside.demi.now c.self.inside.caller c.tx_at-came.new.caller c.self.inside.number c.self.inside.links c.self.inside.drawn l m c.self.invariant c.tx_at-came.ensures.of (Sending c.args.link) (settled came) c.tx_at-came.ensures.owes (ap (λ (s : Side _ _). s.submitted) c.tx_at-came.ensures.others.0)
     (ap (λ (x : LedgerValue). x.draws) is) (tx_fewer c.self.inside.links link l m _ (ap (λ (x : LedgerValue). x.dues) is) (settled came) refl refl back)

@@ -1,0 +1,10 @@
+use Rattle.demi_server.proofs.ReadsMade.{only_due}
+use Rattle.demi_server.proofs.reading.a_served_link_made_only_due_reads.Goals as goal
+
+pub returns : goal.returns
+returns g c = λ ports s d x rx_old rx_new tx_old tx_new l t told limit old fits known p r as_store.
+    only_due g.I.Source.taken g.I.Source.left g.I.Source.faults g.I.Source.reads g.O.Sink.written g.O.Sink.faults ports s d x fits known rx_old rx_new tx_old tx_new p l t r told limit old as_store
+    (λ end. c.an_ended_link_popped_all.ensures ports s d x end fits known)
+    (c.an_ended_link_read_what_was_due.ensures.each ports s d x fits)
+    c.a_link_reads_and_writes.ensures.torn
+    c.a_link_reads_and_writes.ensures.whole

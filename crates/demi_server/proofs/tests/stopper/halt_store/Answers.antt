@@ -1,5 +1,0 @@
-use Rattle.std.proofs.Common.{[]}
-use Rattle.demi_server.proofs.tests.stopper.halt_store.Goals as goal
-
-pub returns : goal.returns
-returns g c = c.redeem.ensures.owes 0 [] (c.stop_store-token.ensures.owes 0 [] c.requires)
