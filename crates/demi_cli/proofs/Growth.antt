@@ -3,7 +3,7 @@ use Rattle.std.proofs.Common.{◌≡◌, ℕ, ◌+◌, List, [], ◌++◌, lengt
 use Rattle.std.proofs.lemmas.List.{append-nil, length-take-le}
 use Rattle.std.specs.Io.KnownBytes.{append_known}
 use Rattle.demi_core.specs.Outside.{GrowsByFront}
-use Rattle.demi_cli.specs.Contents.{Contents, contents, grown}
+use Rattle.demi_server.specs.Logs.{Contents, contents, grown}
 
 pub append-append : (o : Option (List ℕ)) (a b : List ℕ) → append_known (append_known o a) b ≡ append_known o (a ++ b)
 append-append None a b = refl

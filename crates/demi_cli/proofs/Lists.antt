@@ -9,12 +9,12 @@ use Rattle.demi_cli.specs.declared.heads.Heads.{Heads}
 use Rattle.demi_cli.specs.Heads.{HeadsOf}
 use Rattle.demi_cli.specs.declared.outcome.Outcome.{Outcome}
 use Rattle.demi_cli.specs.declared.outcome.Outcome.TheVariants as outcome
-use Rattle.demi_cli.specs.Contents.{Contents}
 use Rattle.demi_cli.specs.Lines.{log_lines}
 use Rattle.demi_cli.specs.Outcome.{status_of, reported}
-use Rattle.demi_cli.specs.Serving.{contents_of}
+use Rattle.demi_server.specs.Logs.{Contents, HadRecords, contents_of}
 use Rattle.demi_cli.specs.Ended.{Unopened}
-use Rattle.demi_cli.specs.Run.{LogOf, NoLink, NoLog, LogFaulted, BadLog, GoodLog, HadRecords, Warned}
+use Rattle.demi_cli.specs.Given.{LogOf, NoLink, NoLog}
+use Rattle.demi_cli.specs.Run.{LogFaulted, BadLog, GoodLog, Warned}
 use Rattle.demi_cli.specs.Listing.{KeepsOne, SameButTold, KeepsLog, SaysLines, SaysPart, GivesNone, Unread, Listed}
 use Rattle.demi_cli.proofs.Clauses.{kept_log_of}
 

@@ -13,19 +13,26 @@ use Rattle.demi_logq.proofs.Holding.{end_is}
 use Rattle.demi_spec.specs.LogText.{header, entries}
 use Rattle.demi_spec.specs.Record.{Record, payload, records, records_in}
 use Rattle.demi_store.specs.Openings.{BeginsEntry}
-use Rattle.demi_cli.specs.Contents.{contents}
-use Rattle.demi_cli.specs.Serving.{contents_of}
-use Rattle.demi_cli.specs.Run.{HadRecords, HeadedInPart, IsBad, opened}
+use Rattle.demi_server.specs.Logs.{HadRecords, HeadedInPart, IsBad, contents, contents_of, opened_log}
 use Rattle.demi_cli.specs.Ended.{Unopened, refused_as}
 use Rattle.demi_cli.proofs.Growth.{front_grown}
-use Rattle.demi_cli.proofs.Ends.{opened_part}
 
 -- a log at a moment
 abbrev pub at_moment : Option (List ℕ) → ℕ → ℕ → Log
 at_moment bytes held faults = record { held = held; bytes = bytes; faults = faults }
 
+-- a log that has its header, or what it had, has a front of it
+headed_part : (b : Bool) (log kept : Log) → (b ≡ true → log.held ≡ 0) → contents_of kept ≡ contents (if b then append_known log.bytes header else log.bytes) (if b then 8 else log.held) → HeadedInPart log kept
+headed_part false log kept empty same = inl same
+headed_part true log kept empty same =
+    let none : log.held ≡ 0 = empty refl in
+    inr (none, (8, same ∙ ap (λ n. contents (append_known log.bytes header) (n + 8)) (sym none)))
+
+pub opened_part : (log kept : Log) → contents_of kept ≡ contents_of (opened_log log) → HeadedInPart log kept
+opened_part log kept same = headed_part (log.held == 0) log kept (λ e. let f = e in grind (arith, nat_tests)) same
+
 -- a log that is just its header has no entry
-none_held : (payloads : List (List ℕ)) → end_of payloads ≡ 8 → payloads ≡ []
+pub none_held : (payloads : List (List ℕ)) → end_of payloads ≡ 8 → payloads ≡ []
 none_held [] e = refl
 none_held (p ∷ payloads) e =
     let some : 0 < length (p ∷ payloads) = omega arith in
@@ -37,7 +44,7 @@ no_ends : (b0 b1 : Option (List ℕ)) (h0 h1 : ℕ) (ends : List ℕ) → h0 ≡
 no_ends b0 b1 h0 h1 ends empty o stands =
     o.holds.places ∙ ap (ends_from 8) (none_held o.payloads (sym o.whole ∙ (stands.1 empty).1))
 
-none_of : (rs : List Record) → length rs ≡ 0 → rs ≡ []
+pub none_of : (rs : List Record) → length rs ≡ 0 → rs ≡ []
 none_of [] e = refl
 none_of (r ∷ rs) e = absurd (omega arith)
 
@@ -70,11 +77,11 @@ stands_by : (t : Bool) (b0 b1 : Option (List ℕ)) (h0 h1 : ℕ) → (t ≡ true
 stands_by true b0 b1 h0 h1 none some stands = let is = stands.1 (none refl) in ap (λ (b : Option (List ℕ)). contents b h1) is.0 ∙ ap (contents (append_known b0 header)) is.1
 stands_by false b0 b1 h0 h1 none some stands = let is = stands.0 (some refl) in ap (λ (b : Option (List ℕ)). contents b h1) is.0 ∙ ap (contents b0) is.1
 
-pub stands_opened : (b0 b1 : Option (List ℕ)) (h0 h1 faults : ℕ) → StandsAs b0 b1 h0 h1 → contents b1 h1 ≡ contents_of (opened (at_moment b0 h0 faults))
+pub stands_opened : (b0 b1 : Option (List ℕ)) (h0 h1 faults : ℕ) → StandsAs b0 b1 h0 h1 → contents b1 h1 ≡ contents_of (opened_log (at_moment b0 h0 faults))
 stands_opened b0 b1 h0 h1 faults stands = stands_by (h0 == 0) b0 b1 h0 h1 (λ e. let f = e in grind (arith, nat_tests)) (λ e. let f = e in grind (arith, nat_tests)) stands
 
 -- the same where no bytes have changed since
-pub stands_still : (b0 b1 b2 : Option (List ℕ)) (h0 h1 h2 faults : ℕ) → StandsAs b0 b1 h0 h1 → b2 ≡ b1 → h2 ≡ h1 → contents b2 h2 ≡ contents_of (opened (at_moment b0 h0 faults))
+pub stands_still : (b0 b1 b2 : Option (List ℕ)) (h0 h1 h2 faults : ℕ) → StandsAs b0 b1 h0 h1 → b2 ≡ b1 → h2 ≡ h1 → contents b2 h2 ≡ contents_of (opened_log (at_moment b0 h0 faults))
 stands_still b0 b1 b2 h0 h1 h2 faults stands bytes held = ap (λ (b : Option (List ℕ)). contents b h2) bytes ∙ ap (contents b1) held ∙ stands_opened b0 b1 h0 h1 faults stands
 
 left_part : (b0 b1 : Option (List ℕ)) (h0 h1 f0 f1 : ℕ) → LeftAs b0 b1 h0 h1 → HeadedInPart (at_moment b0 h0 f0) (at_moment b1 h1 f1)

@@ -8,8 +8,8 @@ use Rattle.demi_cli.specs.declared.outcome.Outcome.{Outcome}
 use Rattle.demi_cli.specs.declared.outcome.Outcome.TheVariants as outcome
 use Rattle.demi_cli.specs.Lines.{log_lines}
 use Rattle.demi_cli.specs.Saying.{SaidFront}
-use Rattle.demi_cli.specs.Serving.{contents_of}
-use Rattle.demi_cli.specs.Run.{LogOf, NoLog, HadRecords, IsBad}
+use Rattle.demi_server.specs.Logs.{HadRecords, IsBad, contents_of}
+use Rattle.demi_cli.specs.Given.{LogOf, NoLog}
 
 -- the world gave a log of this name and keeps it under the name; it holds what it held, and all else is as before
 pub record KeepsOne (old new : WorldState) (name : List ℕ) : Type 0 where

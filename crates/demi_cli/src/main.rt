@@ -1,22 +1,21 @@
 //! The program `demi`, a store that takes framed requests and appends each put to a log.
 //!
-//! [`run`] is all that it does, over any world: what it promises are its clauses. Below it, `serving` answers the
-//! requests of one link, `tool` does what needs no link, as to list a log, and `reporting` gives each outcome its exit status
+//! [`run`] is all that it does, over any world: what it promises are its clauses. Below it, `piping` serves a link in a session
+//! of `demi_server`, `tool` does what needs no link, as to list a log, and `reporting` gives each outcome its exit status
 //! and its text. The world that `main` makes is that of `demi_net`: standard input and output, and files.
-//! Not promised: what a real stream or file holds, and that memory is found.
+//! Not promised: what a real stream or file holds, that memory is found, and that threads can be started.
 #![tactic(auto)]
 
-mod answering;
 mod command;
 mod head;
 mod heads;
+mod opening;
 mod outcome;
+mod piping;
 mod printing;
 mod reading;
-mod replying;
 mod reporting;
 mod running;
-mod serving;
 #[cfg(test)]
 mod tests;
 mod tool;
@@ -30,8 +29,10 @@ use std::process::ExitCode;
 
 fn main(rt: HostRuntime) -> ExitCode {
     let mut world = RealWorld::new(rt);
+    // The ends of a session are for contracts alone.
+    let mut ends = None;
     match words(&rt) {
-        Ok(words) => ExitCode::from(run(rt.alloc(), &words, &mut world)),
+        Ok(words) => ExitCode::from(run(&rt, rt.alloc(), &words, &mut world, &mut ends)),
         Err(NoMemory) => {
             world.warn("demi: out of memory");
             ExitCode::from(5)

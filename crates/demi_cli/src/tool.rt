@@ -1,11 +1,12 @@
 ghost use Rattle.std.specs.Prelude.{◌≡◌, ◌≢◌, ◌<◌, ◌≤◌, ◌↔◌, List, ℕ, false, true, map, string_bytes, IfOk, IfErr};
 ghost use Rattle.demi_core.specs.Outside.{Rose};
 ghost use Rattle.demi_spec.specs.Record.{Record};
-ghost use Rattle.demi_cli.specs.Contents.{contents};
 ghost use Rattle.demi_cli.specs.Heads.{HeadsOf};
 ghost use Rattle.demi_cli.specs.Listing.{GivesNone, KeepsLog, Listed, SaysLines, SaysPart, Unread};
 ghost use Rattle.demi_cli.specs.Outcome.{reported};
-ghost use Rattle.demi_cli.specs.Run.{BadLog, GoodLog, HadRecords, LogFaulted, NoLink, Warned};
+ghost use Rattle.demi_cli.specs.Given.{NoLink};
+ghost use Rattle.demi_cli.specs.Run.{BadLog, GoodLog, LogFaulted, Warned};
+ghost use Rattle.demi_server.specs.Logs.{HadRecords, contents};
 ghost use Rattle.demi_cli.specs.Words.{is_log, log_name};
 
 use crate::command::Command;

@@ -1,18 +1,25 @@
 // What is answered and logged where nothing fails, in pieces of several lengths.
 use super::in_memory::{Left, PUTS_AND_GETS, Setup, THEIR_LOG, on_an_empty_log, run_of};
 use std::alloc::Global;
+use std::sync::Wait;
 use std::test::Fail;
+use std::thread::Threads;
 
 // How many bytes a source gives at most in one read: each, and all.
 const PIECES: [usize; 6] = [1, 2, 3, 7, 4096, 100_000];
 
 // A run of `pipe` over an input that comes in pieces of this length.
-fn run_in_pieces(alloc: Global, input: &[u8], piece: usize) -> Result<Left, Fail> {
+fn run_in_pieces<R: Threads + Wait + Sync>(
+    rt: &R,
+    alloc: Global,
+    input: &[u8],
+    piece: usize,
+) -> Result<Left, Fail> {
     let cut = Setup {
         piece,
         ..on_an_empty_log(input)
     };
-    run_of(alloc, &["pipe", "L"], &cut)
+    run_of(rt, alloc, &["pipe", "L"], &cut)
 }
 
 // How many bytes are left of an input of which so many are looked at, when it comes in pieces of this length.
@@ -66,7 +73,7 @@ fn requests_are_answered_and_logged(rt: HostRuntime) -> Result<(), Fail> {
     ];
     for (name, input, looked_at, output, log) in rows {
         for piece in PIECES {
-            let left = run_in_pieces(rt.alloc(), input, piece)?;
+            let left = run_in_pieces(&rt, rt.alloc(), input, piece)?;
             assert_eq!(rt; left.status, 0, "{name}");
             assert_eq!(rt; left.output.as_slice(), output, "{name}");
             assert_eq!(rt; left.log.as_slice(), log, "{name}");
@@ -147,7 +154,7 @@ fn refused_frames_are_answered_with_their_codes(rt: HostRuntime) -> Result<(), F
     ];
     for (name, input, looked_at, output, log, warned) in rows {
         for piece in PIECES {
-            let left = run_in_pieces(rt.alloc(), input, piece)?;
+            let left = run_in_pieces(&rt, rt.alloc(), input, piece)?;
             assert_eq!(rt; left.status, 6, "{name}");
             assert_eq!(rt; left.output.as_slice(), output, "{name}");
             assert_eq!(rt; left.log.as_slice(), log, "{name}");

@@ -1,7 +1,9 @@
 // Runs over a log that is there already.
 use super::in_memory::{Left, PUTS_AND_GETS, Setup, THEIR_LOG, on_an_empty_log, run_of};
 use std::alloc::Global;
+use std::sync::Wait;
 use std::test::Fail;
+use std::thread::Threads;
 
 const GET_A: &[u8] = b"\x02\x01\x00\x00\x00\x00a";
 
@@ -16,12 +18,17 @@ const ITS_LOG: &[u8] =
     b"DEMILOG1\x00\x00\x00\x09\x00\x00\x00\x00\x00\x00\x01a1\x00\x00\x00\x09\x00\x00\x00\x00\x00\x02\x01a2\x00\x00\x00\x09\x00\x00\x00\x00\x00\x00\x01b9";
 
 // A run of `pipe` over this log.
-fn run_over(alloc: Global, old_log: &[u8], input: &[u8]) -> Result<Left, Fail> {
+fn run_over<R: Threads + Wait + Sync>(
+    rt: &R,
+    alloc: Global,
+    old_log: &[u8],
+    input: &[u8],
+) -> Result<Left, Fail> {
     let used = Setup {
         old_log,
         ..on_an_empty_log(input)
     };
-    run_of(alloc, &["pipe", "L"], &used)
+    run_of(rt, alloc, &["pipe", "L"], &used)
 }
 
 #[test]
@@ -58,7 +65,7 @@ fn a_log_is_used_again(rt: HostRuntime) -> Result<(), Fail> {
         ),
     ];
     for (name, old_log, input, output, log) in rows {
-        let left = run_over(rt.alloc(), old_log, input)?;
+        let left = run_over(&rt, rt.alloc(), old_log, input)?;
         assert_eq!(rt; left.status, 0, "{name}");
         assert_eq!(rt; left.output.as_slice(), output, "{name}");
         assert_eq!(rt; left.log.as_slice(), log, "{name}");
@@ -69,12 +76,12 @@ fn a_log_is_used_again(rt: HostRuntime) -> Result<(), Fail> {
 
 #[test]
 fn a_log_is_used_by_one_run_after_another(rt: HostRuntime) -> Result<(), Fail> {
-    let first = run_over(rt.alloc(), b"", PUTS_AND_GETS)?;
+    let first = run_over(&rt, rt.alloc(), b"", PUTS_AND_GETS)?;
     assert_eq!(rt; first.log.as_slice(), THEIR_LOG);
-    let second = run_over(rt.alloc(), &first.log, PUT_THEN_GET)?;
+    let second = run_over(&rt, rt.alloc(), &first.log, PUT_THEN_GET)?;
     assert_eq!(rt; second.output.as_slice(), ITS_REPLIES);
     assert_eq!(rt; second.log.as_slice(), ITS_LOG);
-    let third = run_over(rt.alloc(), &second.log, b"\x02\x01\x00\x00\x00\x00b")?;
+    let third = run_over(&rt, rt.alloc(), &second.log, b"\x02\x01\x00\x00\x00\x00b")?;
     assert_eq!(rt; third.status, 0);
     assert_eq!(rt;
         third.output.as_slice(),
@@ -88,7 +95,7 @@ fn a_log_is_used_by_one_run_after_another(rt: HostRuntime) -> Result<(), Fail> {
 fn a_log_that_is_cut_anywhere(rt: HostRuntime) -> Result<(), Fail> {
     for length in 0..=34usize {
         let torn = &THEIR_LOG[..length.min(THEIR_LOG.len())];
-        let left = run_over(rt.alloc(), torn, GET_A)?;
+        let left = run_over(&rt, rt.alloc(), torn, GET_A)?;
         let (status, text, rest): (u8, &[u8], usize) = match length {
             0 | 8 | 21 | 34 => (0, b"", 0),
             1..8 => (7, b"demi: bad log at byte 0", 7),
@@ -135,7 +142,7 @@ fn a_log_that_is_no_text_of_records(rt: HostRuntime) -> Result<(), Fail> {
         ),
     ];
     for (name, log, text) in rows {
-        let left = run_over(rt.alloc(), log, GET_A)?;
+        let left = run_over(&rt, rt.alloc(), log, GET_A)?;
         assert_eq!(rt; left.status, 7, "{name}");
         assert_eq!(rt; left.warned.as_slice(), text, "{name}");
         assert_eq!(rt; left.rest, 7, "{name}");
@@ -147,17 +154,23 @@ fn a_log_that_is_no_text_of_records(rt: HostRuntime) -> Result<(), Fail> {
 
 #[test]
 fn a_log_whose_calls_fail(rt: HostRuntime) -> Result<(), Fail> {
-    // Six looks open the log, and each get is one more.
-    let looks: [(u64, usize, usize, usize, u8); 9] = [
+    // Six looks open the log before the link is taken, six once it was, and each get is one more.
+    let looks: [(u64, usize, usize, usize, u8); 15] = [
         (0, 22, 0, 34, 4),
         (1, 22, 0, 34, 4),
         (2, 22, 0, 34, 4),
         (3, 22, 0, 34, 4),
         (4, 22, 0, 34, 4),
         (5, 22, 0, 34, 4),
-        (6, 0, 23, 47, 4),
-        (7, 0, 46, 47, 4),
-        (8, 0, 69, 47, 0),
+        (6, 22, 0, 34, 4),
+        (7, 22, 0, 34, 4),
+        (8, 22, 0, 34, 4),
+        (9, 22, 0, 34, 4),
+        (10, 22, 0, 34, 4),
+        (11, 22, 0, 34, 4),
+        (12, 0, 23, 47, 4),
+        (13, 0, 46, 47, 4),
+        (14, 0, 69, 47, 0),
     ];
     for (look, rest, written, logged, status) in looks {
         let faulty = Setup {
@@ -165,10 +178,11 @@ fn a_log_whose_calls_fail(rt: HostRuntime) -> Result<(), Fail> {
             failing_looks: &[look],
             ..on_an_empty_log(PUT_THEN_GET)
         };
-        let left = run_of(rt.alloc(), &["pipe", "L"], &faulty)?;
+        let left = run_of(&rt, rt.alloc(), &["pipe", "L"], &faulty)?;
         assert_eq!(rt; left.status, status, "look {look}");
         assert_eq!(rt; left.rest, rest, "look {look}");
         assert_eq!(rt; left.output.len(), written, "look {look}");
+        assert_eq!(rt; left.asked.is_some(), look >= 12, "look {look}");
         assert_eq!(rt; left.log.len(), logged, "look {look}");
     }
     let failed = Setup {
@@ -176,7 +190,7 @@ fn a_log_whose_calls_fail(rt: HostRuntime) -> Result<(), Fail> {
         failing_appends: &[0],
         ..on_an_empty_log(PUT_THEN_GET)
     };
-    let left = run_of(rt.alloc(), &["pipe", "L"], &failed)?;
+    let left = run_of(&rt, rt.alloc(), &["pipe", "L"], &failed)?;
     assert_eq!(rt; left.status, 4);
     assert_eq!(rt; left.output.len(), 0);
     assert_eq!(rt; left.log.as_slice(), THEIR_LOG);
@@ -185,7 +199,7 @@ fn a_log_whose_calls_fail(rt: HostRuntime) -> Result<(), Fail> {
         failing_writes: &[2],
         ..on_an_empty_log(PUT_THEN_GET)
     };
-    let left = run_of(rt.alloc(), &["pipe", "L"], &unsaid)?;
+    let left = run_of(&rt, rt.alloc(), &["pipe", "L"], &unsaid)?;
     assert_eq!(rt; left.status, 3);
     assert_eq!(rt; left.output.len(), 23);
     assert_eq!(rt; left.log.as_slice(), ITS_LOG);

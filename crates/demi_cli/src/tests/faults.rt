@@ -1,10 +1,13 @@
 // What stands where a source, a sink or a disk fails, or the input ends early.
 use super::in_memory::{Left, PUTS_AND_GETS, Setup, on_an_empty_log, run_of};
 use std::alloc::Global;
+use std::sync::Wait;
 use std::test::Fail;
+use std::thread::Threads;
 
 // The bytes taken, written and logged, and the status, where these calls of the three fail.
-fn faulty(
+fn faulty<R: Threads + Wait + Sync>(
+    rt: &R,
     alloc: Global,
     reads: &[u64],
     writes: &[u64],
@@ -17,7 +20,7 @@ fn faulty(
         failing_appends: appends,
         ..on_an_empty_log(PUTS_AND_GETS)
     };
-    let left = run_of(alloc, &["pipe", "L"], &faults)?;
+    let left = run_of(rt, alloc, &["pipe", "L"], &faults)?;
     let Left {
         status,
         said: _,
@@ -25,6 +28,7 @@ fn faulty(
         output,
         log,
         rest,
+        asked: _,
     } = left;
     let sizes = (PUTS_AND_GETS.len() - rest.min(36), output.len(), log.len());
     Ok((sizes, status, warned))
@@ -41,7 +45,7 @@ fn a_source_that_fails_a_read(rt: HostRuntime) -> Result<(), Fail> {
         (5, (36, 114, 34), 0),
     ];
     for (read, sizes, status) in rows {
-        let (left, ended, warned) = faulty(rt.alloc(), &[read], &[], &[])?;
+        let (left, ended, warned) = faulty(&rt, rt.alloc(), &[read], &[], &[])?;
         assert_eq!(rt; left, sizes, "read {read}");
         assert_eq!(rt; ended, status, "read {read}");
         let text = if status == 2 {
@@ -69,7 +73,7 @@ fn a_sink_that_fails_a_write(rt: HostRuntime) -> Result<(), Fail> {
         (9, 36, 114, 34, 0),
     ];
     for (write, taken, written, logged, status) in rows {
-        let (left, ended, warned) = faulty(rt.alloc(), &[], &[write], &[])?;
+        let (left, ended, warned) = faulty(&rt, rt.alloc(), &[], &[write], &[])?;
         assert_eq!(rt; left.0, taken, "write {write}");
         assert_eq!(rt; left.1, written, "write {write}");
         assert_eq!(rt; left.2, logged, "write {write}");
@@ -93,7 +97,7 @@ fn a_disk_that_fails_an_append(rt: HostRuntime) -> Result<(), Fail> {
         (3, 36, 114, 34, 0),
     ];
     for (append, taken, written, logged, status) in rows {
-        let (left, ended, warned) = faulty(rt.alloc(), &[], &[], &[append])?;
+        let (left, ended, warned) = faulty(&rt, rt.alloc(), &[], &[], &[append])?;
         assert_eq!(rt; left.0, taken, "append {append}");
         assert_eq!(rt; left.1, written, "append {append}");
         assert_eq!(rt; left.2, logged, "append {append}");
@@ -115,7 +119,7 @@ fn an_input_cut_anywhere(rt: HostRuntime) -> Result<(), Fail> {
             piece: 8,
             ..on_an_empty_log(&PUTS_AND_GETS[..length.min(PUTS_AND_GETS.len())])
         };
-        let left = run_of(rt.alloc(), &["pipe", "L"], &cut)?;
+        let left = run_of(&rt, rt.alloc(), &["pipe", "L"], &cut)?;
         let whole = [0, 8, 15, 23, 30, 36].contains(&length);
         let text = if whole {
             b"".as_slice()
@@ -135,7 +139,7 @@ fn a_sink_that_fails_between_two_replies(rt: HostRuntime) -> Result<(), Fail> {
         failing_writes: &[2],
         ..on_an_empty_log(b"\x01\x01\x00\x00\x00\x01a1\x01\x01\x00\x00\x00\x01a2")
     };
-    let left = run_of(rt.alloc(), &["pipe", "L"], &two)?;
+    let left = run_of(&rt, rt.alloc(), &["pipe", "L"], &two)?;
     assert_eq!(rt; left.status, 3);
     assert_eq!(rt; left.rest, 0);
     assert_eq!(rt;

@@ -2,7 +2,9 @@
 use crate::running::run;
 use demi_core::{MemDisk, MemSink, MemSource, MemWorld};
 use std::alloc::Global;
+use std::sync::Wait;
 use std::test::Fail;
+use std::thread::Threads;
 
 // What a run is given: `pipe L` on an empty log.
 #[derive(Clone, Copy)]
@@ -28,6 +30,8 @@ pub struct Left {
     pub log: Vec<u8>,
     // The bytes of the input that were not taken.
     pub rest: usize,
+    // How many operations the store's port of its session had, where one ran.
+    pub asked: Option<u64>,
 }
 
 pub fn on_an_empty_log(input: &[u8]) -> Setup<'_> {
@@ -72,10 +76,20 @@ fn world_of(alloc: Global, setup: &Setup) -> Result<MemWorld, Fail> {
     Ok(MemWorld::make(alloc, links, logs, setup.print_room, Vec::new(alloc))?)
 }
 
-pub fn run_of(alloc: Global, words: &[&str], setup: &Setup) -> Result<Left, Fail> {
+pub fn run_of<R: Threads + Wait + Sync>(
+    rt: &R,
+    alloc: Global,
+    words: &[&str],
+    setup: &Setup,
+) -> Result<Left, Fail> {
     let mut world = world_of(alloc, setup)?;
     let words = words_of(alloc, words)?;
-    let status = run(alloc, &words, &mut world);
+    let mut ends = None;
+    let status = run(rt, alloc, &words, &mut world, &mut ends);
+    let asked = match &ends {
+        Some(ends) => Some(ends.service.tickets()),
+        None => None,
+    };
     let (rest, output) = match world.link(0) {
         Some(link) => (link.0.bytes().len(), link.1.bytes()),
         None => (setup.input.len(), b"".as_slice()),
@@ -91,6 +105,7 @@ pub fn run_of(alloc: Global, words: &[&str], setup: &Setup) -> Result<Left, Fail
         output: output.to_vec(alloc)?,
         log: log.to_vec(alloc)?,
         rest,
+        asked,
     })
 }
 

@@ -1,10 +1,13 @@
 // Logs that are listed.
 use super::in_memory::{Left, Setup, THEIR_LOG, on_an_empty_log, run_of};
 use std::alloc::Global;
+use std::sync::Wait;
 use std::test::Fail;
+use std::thread::Threads;
 
 // A list of this log, where these looks of the disk fail and so many bytes are printed at most.
-fn list_of(
+fn list_of<R: Threads + Wait + Sync>(
+    rt: &R,
     alloc: Global,
     words: &[&str],
     old_log: &[u8],
@@ -17,7 +20,7 @@ fn list_of(
         print_room,
         ..on_an_empty_log(b"not read")
     };
-    run_of(alloc, words, &listed)
+    run_of(rt, alloc, words, &listed)
 }
 
 const THEIR_LINES: &[u8] =
@@ -196,7 +199,7 @@ fn a_log_is_listed(rt: HostRuntime) -> Result<(), Fail> {
         ),
     ];
     for (name, words, log, failing_looks, print_room, status, said, warned) in rows {
-        let left = list_of(rt.alloc(), words, log, failing_looks, print_room)?;
+        let left = list_of(&rt, rt.alloc(), words, log, failing_looks, print_room)?;
         assert_eq!(rt; left.status, status, "{name}");
         assert_eq!(rt; left.said.as_slice(), said, "{name}");
         assert_eq!(rt; left.warned.as_slice(), warned, "{name}");
@@ -226,7 +229,7 @@ fn many(alloc: Global, count: u32) -> Result<(Vec<u8>, Vec<u8>), Fail> {
 #[test]
 fn lines_are_said_in_pieces(rt: HostRuntime) -> Result<(), Fail> {
     let (input, lines) = many(rt.alloc(), 500)?;
-    let put = run_of(rt.alloc(), &["pipe", "L"], &on_an_empty_log(&input))?;
+    let put = run_of(&rt, rt.alloc(), &["pipe", "L"], &on_an_empty_log(&input))?;
     assert_eq!(rt; put.said.len(), 0);
     for (room, said, status) in [
         (100_000, lines.len(), 0),
@@ -234,7 +237,7 @@ fn lines_are_said_in_pieces(rt: HostRuntime) -> Result<(), Fail> {
         (9_000, 7594, 3),
         (7_000, 0, 3),
     ] {
-        let left = list_of(rt.alloc(), &["log", "L"], &put.log, &[], room)?;
+        let left = list_of(&rt, rt.alloc(), &["log", "L"], &put.log, &[], room)?;
         assert_eq!(rt; left.status, status, "{room}");
         assert_eq!(rt; left.said.len(), said, "{room}");
         assert!(rt; lines.starts_with(&left.said), "{room}");

@@ -120,7 +120,7 @@ fn puts_from_bytes_to_bytes(rt: HostRuntime) -> Result<(), Fail> {
             piece: 1000,
             ..on_an_empty_log(input)
         };
-        let left = run_of(rt.alloc(), words, &thousands)?;
+        let left = run_of(&rt, rt.alloc(), words, &thousands)?;
         assert_eq!(rt; left.status, status, "{name}");
         assert_eq!(rt; left.output.as_slice(), output, "{name}");
         assert_eq!(rt; left.log.as_slice(), log, "{name}");
@@ -140,7 +140,7 @@ fn other_words_are_no_command(rt: HostRuntime) -> Result<(), Fail> {
         &["PIPE", "L"],
     ];
     for words in lists {
-        let left = run_of(rt.alloc(), words, &on_an_empty_log(PUTS_AND_GETS))?;
+        let left = run_of(&rt, rt.alloc(), words, &on_an_empty_log(PUTS_AND_GETS))?;
         assert_eq!(rt; left.status, 1);
         assert_eq!(rt;
             left.warned.as_slice(),
@@ -154,7 +154,12 @@ fn other_words_are_no_command(rt: HostRuntime) -> Result<(), Fail> {
 
 #[test]
 fn a_log_that_cannot_be_had_takes_no_link(rt: HostRuntime) -> Result<(), Fail> {
-    let left = run_of(rt.alloc(), &["pipe", "M"], &on_an_empty_log(PUTS_AND_GETS))?;
+    let left = run_of(
+        &rt,
+        rt.alloc(),
+        &["pipe", "M"],
+        &on_an_empty_log(PUTS_AND_GETS),
+    )?;
     assert_eq!(rt; left.status, 8);
     assert_eq!(rt; left.warned.as_slice(), b"demi: cannot open".as_slice());
     assert_eq!(rt; left.rest, 36);
