@@ -1,0 +1,14 @@
+pub mod Drawing
+pub mod Deals
+pub mod Examples
+pub mod OneHearing
+pub mod Standing
+pub mod Answering
+pub mod Sound
+pub mod Complete
+pub mod Records
+pub mod Audit
+pub mod Fields
+pub mod Links
+pub mod Finding
+pub mod Logged

@@ -1,0 +1,5 @@
+pub mod Generator
+pub mod Entries
+pub mod Transcript
+pub mod Reading
+pub mod Verdict

@@ -1,0 +1,19 @@
+//! The auditor's tools: random inputs, and what a session is that was served whole.
+//!
+//! [`generate`] makes the inputs of links from a number. They are exactly what the definitions in `specs/` say.
+//! [`the_verdict_is_whole`] is a law of the auditor's rules, which `specs/` lists as a function that names the first fault
+//! of a session: it names none exactly where the session was whole. Nothing here starts a thread, and every call returns.
+//! Inside the crate, `transcript` reads the text of a session, or names the first byte of the first field that is bad.
+//! Not there: a call that looks for the faults of a session that was read. Not promised: anything about time.
+#![tactic(auto)]
+
+mod dealing;
+mod draws;
+mod entries;
+mod laws;
+#[cfg(test)]
+mod tests;
+mod transcript;
+
+pub use dealing::generate;
+pub use laws::the_verdict_is_whole;
