@@ -1,6 +1,7 @@
-//! A session: links are served over a log until each has ended.
+//! A session: a link is served over a log until it has ended.
 //!
-//! [`Context`] is what the coroutines of one worker are polled with: it makes their calls at the library's face, with the
+//! [`session`] opens the log as a store, makes the ports and a device for each, serves the link by one worker beside the devices,
+//! stops and closes all, and hands everything back with the ends of all ports ([`SessionEnd`]). Below it, [`Context`] is what the coroutines of one worker are polled with: it makes their calls at the library's face, with the
 //! worker's own caller, and keeps for contracts what each of them came to, link by link. [`work_all`] runs all of a session beside
 //! each other, and only there threads are started: a [`Job`] for each device and each worker, where the workers are a [`Crew`]
 //! whose first one does the last of the work for all. A [`Station`] is a device at its port, whose work is to serve until it was
