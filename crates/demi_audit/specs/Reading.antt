@@ -36,7 +36,7 @@ pub record HasFields (bytes : List ℕ) (f : Fields) : Type 0 where
   pub log_size : f.log_size ≡ number_8 bytes 20
   pub rest : transcript bytes ≡ behind_log bytes (log_records bytes)
 
--- the transcript that was read is that of this session
+-- the transcript that was read is that of this run
 pub record ReadAs (t : Transcript) (bytes : List ℕ) (run : Run) : Type 0 where
   pub limit : run.limit ≡ t.limit
   pub limit_fits : (1 ≤ t.limit) × (t.limit ≤ 1000000)

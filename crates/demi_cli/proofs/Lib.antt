@@ -1,4 +1,3 @@
-pub mod Growth
 pub mod Opens
 pub mod Since
 pub mod Served

@@ -10,7 +10,7 @@ use Rattle.demi_cli.specs.declared.heads.Heads.{Heads}
 use Rattle.demi_cli.specs.Heads.{HeadsOf, head_of, keys_of}
 use Rattle.demi_cli.specs.Lines.{count_line, line, line_of, lines_from, log_lines}
 use Rattle.demi_cli.specs.Saying.{SaidBut, SaidFront}
-use Rattle.demi_cli.proofs.Growth.{append-append, append-none}
+use Rattle.demi_server.proofs.Growth.{append-append, append-none}
 
 -- a text and then another
 after-after : (w : WorldState) (a b : List ℕ) → after_say (after_say w a) b ≡ after_say w (a ++ b)

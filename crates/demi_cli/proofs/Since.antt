@@ -22,7 +22,7 @@ use Rattle.demi_cli.specs.Serving.{limit}
 use Rattle.demi_cli.specs.Sessions.{SessionEnds, SessionOver}
 use Rattle.demi_cli.specs.declared.outcome.Outcome.{Outcome}
 use Rattle.demi_cli.specs.declared.outcome.Outcome.TheVariants as outcome
-use Rattle.demi_cli.proofs.Opens.{none_held, none_of}
+use Rattle.demi_server.proofs.Opens.{none_held, none_of}
 
 -- it tells its bytes where it did before
 headed_tells : (b : Bool) (told : Option (List ℕ)) → tells (if b then append_known told header else told) ≡ tells told

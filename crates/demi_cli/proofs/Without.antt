@@ -9,7 +9,7 @@ use Rattle.demi_cli.specs.Run.{BadLater, BadLog, CannotOpen, LogFaulted, Unserve
 use Rattle.demi_cli.specs.declared.outcome.Outcome.{Outcome}
 use Rattle.demi_cli.specs.declared.outcome.Outcome.TheVariants as outcome
 use Rattle.demi_cli.proofs.Clauses.{link_of, log_of, mid_warned, no_link, nothing, same_but, warned_of}
-use Rattle.demi_cli.proofs.Opens.{opened_part}
+use Rattle.demi_server.proofs.Opens.{opened_part}
 
 -- what an outcome says where no session ran
 abbrev pub SaysOf : Outcome → WorldState → WorldState → List ℕ → ℕ → ℕ → Type 0

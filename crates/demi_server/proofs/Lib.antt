@@ -15,7 +15,7 @@ mod EndsTold
 mod Entries
 mod FaultsTold
 pub mod Gathered
-mod Growth
+pub mod Growth
 mod Halting
 mod Halts
 mod HandSend
@@ -30,7 +30,7 @@ mod NoneStruck
 mod OneEnds
 mod OnlyCloses
 mod OnlyServed
-mod Opens
+pub mod Opens
 mod OutcomeRows
 pub mod Outcomes
 mod PopsRead

@@ -31,7 +31,7 @@ pub opened_part : (log kept : Log) → contents_of kept ≡ contents_of (opened_
 opened_part log kept same = headed_part (log.held == 0) log kept (λ e. let f = e in grind (arith, nat_tests)) same
 
 -- a log that is just its header has no entry
-none_held : (payloads : List (List ℕ)) → end_of payloads ≡ 8 → payloads ≡ []
+pub none_held : (payloads : List (List ℕ)) → end_of payloads ≡ 8 → payloads ≡ []
 none_held [] e = refl
 none_held (p ∷ payloads) e =
     let some : 0 < length (p ∷ payloads) = omega arith in
@@ -43,7 +43,7 @@ no_ends : (b0 b1 : Option (List ℕ)) (h0 h1 : ℕ) (ends : List ℕ) → h0 ≡
 no_ends b0 b1 h0 h1 ends empty o stands =
     o.holds.places ∙ ap (ends_from 8) (none_held o.payloads (sym o.whole ∙ (stands.1 empty).1))
 
-none_of : (rs : List Record) → length rs ≡ 0 → rs ≡ []
+pub none_of : (rs : List Record) → length rs ≡ 0 → rs ≡ []
 none_of [] e = refl
 none_of (r ∷ rs) e = absurd (omega arith)
 
@@ -83,7 +83,7 @@ stands_opened b0 b1 h0 h1 faults stands = stands_by (h0 == 0) b0 b1 h0 h1 (λ e.
 pub stands_still : (b0 b1 b2 : Option (List ℕ)) (h0 h1 h2 faults : ℕ) → StandsAs b0 b1 h0 h1 → b2 ≡ b1 → h2 ≡ h1 → contents b2 h2 ≡ contents_of (opened_log (at_moment b0 h0 faults))
 stands_still b0 b1 b2 h0 h1 h2 faults stands bytes held = ap (λ (b : Option (List ℕ)). contents b h2) bytes ∙ ap (contents b1) held ∙ stands_opened b0 b1 h0 h1 faults stands
 
-left_part : (b0 b1 : Option (List ℕ)) (h0 h1 f0 f1 : ℕ) → LeftAs b0 b1 h0 h1 → HeadedInPart (at_moment b0 h0 f0) (at_moment b1 h1 f1)
+pub left_part : (b0 b1 : Option (List ℕ)) (h0 h1 f0 f1 : ℕ) → LeftAs b0 b1 h0 h1 → HeadedInPart (at_moment b0 h0 f0) (at_moment b1 h1 f1)
 left_part b0 b1 h0 h1 f0 f1 (inl same) = inl (ap (λ (b : Option (List ℕ)). contents b h1) same.0 ∙ ap (contents b0) same.1)
 left_part b0 b1 h0 h1 f0 f1 (inr part) = inr (part.0, front_grown b0 b1 h0 h1 header part.1)
 
@@ -91,7 +91,7 @@ pub left_same : (b0 b1 : Option (List ℕ)) (h0 h1 : ℕ) → 0 < h0 → LeftAs 
 left_same b0 b1 h0 h1 some (inl same) = ap (λ (b : Option (List ℕ)). contents b h1) same.0 ∙ ap (contents b0) same.1
 left_same b0 b1 h0 h1 some (inr part) = absurd (let e = part.0 in omega arith)
 
-bad_entries : (told : Option (List ℕ)) (at : ℕ) → IfSome told (λ b. entries b ≡ Err at) → IfSome told (λ b. records b ≡ Err at)
+pub bad_entries : (told : Option (List ℕ)) (at : ℕ) → IfSome told (λ b. entries b ≡ Err at) → IfSome told (λ b. records b ≡ Err at)
 bad_entries None at bad = tt
 bad_entries (Some b) at bad = ap records_in bad
 
@@ -107,7 +107,7 @@ not_made refusal.Full b0 b1 h0 h1 f0 f1 bad place left other rose = absurd (othe
 not_made refusal.Broken b0 b1 h0 h1 f0 f1 bad place left other rose = absurd (other.1 refl)
 
 -- an entry is no record
-bad_record : (b0 b1 b2 : Option (List ℕ)) (h0 h1 h2 f0 f2 : ℕ) (ends : List ℕ) (at : ℕ) → Opened b0 b1 h1 ends → StandsAs b0 b1 h0 h1 → b2 ≡ b1 → h2 ≡ h1 → IfSome b1 (λ b. records b ≡ Err at) → BeginsEntry ends at
+pub bad_record : (b0 b1 b2 : Option (List ℕ)) (h0 h1 h2 f0 f2 : ℕ) (ends : List ℕ) (at : ℕ) → Opened b0 b1 h1 ends → StandsAs b0 b1 h0 h1 → b2 ≡ b1 → h2 ≡ h1 → IfSome b1 (λ b. records b ≡ Err at) → BeginsEntry ends at
     → IsBad (at_moment b0 h0 f0) (at_moment b2 h2 f2) at
 bad_record b0 b1 b2 zero h1 h2 f0 f2 ends at o stands bytes held bad begins =
     let less : begins.0 < length ends = begins.1 in

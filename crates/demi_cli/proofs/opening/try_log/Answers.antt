@@ -5,7 +5,8 @@ use Rattle.demi_logq.specs.Logged.{Logged}
 use Rattle.demi_spec.specs.Record.{records}
 use Rattle.demi_cli.specs.declared.outcome.Outcome.{Outcome}
 use Rattle.demi_cli.specs.Ended.{Unopened}
-use Rattle.demi_cli.proofs.Opens.{at_moment, had_records, stands_still, not_made, not_opened}
+use Rattle.demi_server.proofs.Opens.{at_moment, had_records, stands_still}
+use Rattle.demi_cli.proofs.Opens.{not_made, not_opened}
 use Rattle.demi_cli.proofs.opening.try_log.Goals as goal
 
 pub returns-in-Ok-make-clause-had : goal.returns-in-Ok-make-clause-had

@@ -1,6 +1,6 @@
 use Rattle.std.proofs.Common.{◌≡◌, ◌∙◌, ℕ, List, [], length, Option, Some, None, refl, inl}
 use Rattle.std.specs.Prelude.{IfSome}
-use Rattle.demi_cli.proofs.Opens.{read_none}
+use Rattle.demi_server.proofs.Opens.{read_none}
 use Rattle.demi_cli.proofs.tool.read_log.Goals as goal
 
 none_told : (told : Option (List ℕ)) (held : ℕ) → IfSome told (λ b. length b ≡ held) → held ≡ 0 → IfSome told (λ b. length b ≡ 0)

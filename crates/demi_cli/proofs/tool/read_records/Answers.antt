@@ -2,7 +2,8 @@ use Rattle.std.proofs.Common.{sym, subst, refl}
 use Rattle.demi_core.specs.World.{Log}
 use Rattle.demi_cli.specs.declared.outcome.Outcome.{Outcome}
 use Rattle.demi_cli.specs.Listing.{Unread}
-use Rattle.demi_cli.proofs.Opens.{at_moment, had_records, not_made}
+use Rattle.demi_server.proofs.Opens.{at_moment, had_records}
+use Rattle.demi_cli.proofs.Opens.{not_made}
 use Rattle.demi_cli.proofs.Lists.{unread}
 use Rattle.demi_cli.proofs.tool.read_records.Goals as goal
 
