@@ -9,7 +9,7 @@ use Rattle.demi_logq.specs.Items.{tells}
 use Rattle.demi_served.specs.Links.{LinkEnded, LinkPorts}
 use Rattle.demi_served.specs.Served.{TornTalk}
 use Rattle.demi_served.specs.Talks.{LinkRun, Talk}
-use Rattle.demi_server.specs.TextEnds.{ending_of}
+use Rattle.demi_closed.specs.TextEnds.{ending_of}
 use Rattle.demi_cli.specs.Ended.{RanWith, RanWithout}
 use Rattle.demi_server.specs.Logs.{HadRecords, contents_of, opened_log}
 use Rattle.demi_spec.specs.Record.{Record}

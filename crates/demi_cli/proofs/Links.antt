@@ -12,7 +12,7 @@ use Rattle.demi_served.specs.Served.{TornTalk}
 use Rattle.demi_served.specs.Talks.{LinkRun, Talk}
 use Rattle.demi_server.specs.Outcomes.{told_of}
 use Rattle.demi_server.specs.Session.{HasCause}
-use Rattle.demi_server.specs.TextEnds.{ending_of}
+use Rattle.demi_closed.specs.TextEnds.{ending_of}
 use Rattle.demi_server.specs.declared.outcome.Outcome.{Outcome as SessionOutcome}
 use Rattle.demi_spec.specs.Input.{Asked, Open}
 use Rattle.demi_store.specs.Laws.{StoreBasis}

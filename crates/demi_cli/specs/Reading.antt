@@ -4,7 +4,7 @@ use Rattle.demi_core.specs.World.{WorldState, Link, Log}
 use Rattle.demi_logq.specs.Items.{tells}
 use Rattle.demi_served.specs.Talks.{LinkRun}
 use Rattle.demi_server.specs.Logs.{HadRecords}
-use Rattle.demi_server.specs.Reading.{OnlyDueReads}
+use Rattle.demi_closed.specs.Reading.{OnlyDueReads}
 use Rattle.demi_spec.specs.Record.{Record}
 use Rattle.demi_cli.specs.Given.{LogOf, LinkOf, NoLink}
 use Rattle.demi_cli.specs.Serving.{Took, Says, limit}

@@ -3,11 +3,11 @@ use Rattle.std.proofs.Common.{◌≡◌, ℕ, List, [], ◌∷◌, ◌∙◌, ap
 use Rattle.demi_link.specs.Sights.{side_of}
 use Rattle.demi_pdpix.specs.Owing.{Owes}
 use Rattle.demi_worker.specs.declared.ended.Ended.{Ended}
-use Rattle.demi_server.specs.Closed.{Added}
+use Rattle.demi_closed.specs.Closed.{Added}
 use Rattle.demi_server.specs.ContextPorts.{Caller, Whole, side_at}
 use Rattle.demi_server.specs.ContextSights.{sight_of}
 use Rattle.demi_server.specs.Hands.{Done, HandValue, HasFinished, HasServed, ServedLink}
-use Rattle.demi_server.specs.OnlyLink.{store_stop}
+use Rattle.demi_closed.specs.OnlyLink.{store_stop}
 
 same_done : {a b : Caller} {x y : List Ended} → Done a x ≡ Done b y → (a ≡ b) × (x ≡ y)
 same_done e = (cc, cc)

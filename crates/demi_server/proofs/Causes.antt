@@ -25,8 +25,8 @@ use Rattle.demi_served.specs.Reading.{Popped}
 use Rattle.demi_link.specs.Heard.{CameAt, IsReadFault, IsWriteFault, LastCame}
 use Rattle.demi_link.specs.Sights.{Sight}
 use Rattle.demi_link.proofs.Lists.{above_floor}
-use Rattle.demi_server.specs.LinkClosed.{PortsClosed}
-use Rattle.demi_server.proofs.Entries.{knew_before}
+use Rattle.demi_closed.specs.LinkClosed.{PortsClosed}
+use Rattle.demi_closed.proofs.Entries.{knew_before}
 use Rattle.demi_server.proofs.FaultsTold.{read_fault_told, write_fault_told}
 
 last_in : {X : Type 0} (P : X → Type 0) (xs : List X) (x : X) → Each P (xs ++ x ∷ []) → P x

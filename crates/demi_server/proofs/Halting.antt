@@ -18,7 +18,7 @@ use Rattle.demi_streamq.specs.declared.tx_op.TxOp.TheVariants as sending
 use Rattle.demi_link.specs.Sights.{Side, side_of}
 use Rattle.demi_server.specs.ContextPorts.{Caller, SameSides, Whole, rx_port, side_at, tx_port}
 use Rattle.demi_server.specs.Halting.{Gives, GivesStop, HasLooked}
-use Rattle.demi_server.specs.OnlyLink.{store_stop}
+use Rattle.demi_closed.specs.OnlyLink.{store_stop}
 use Rattle.demi_server.proofs.ContextOwing.{none_owes, same_owes}
 use Rattle.demi_server.proofs.ContextSides.{changed_same, found_side, looked_side, submitted_side}
 use Rattle.demi_server.proofs.ContextSubmits.{rx_some, rx_submitted, tx_some, tx_submitted}

@@ -33,10 +33,10 @@ use Rattle.demi_streamq.specs.declared.rx_out.RxOut.{RxOut}
 use Rattle.demi_streamq.specs.declared.tx_out.TxOut.{TxOut}
 use Rattle.demi_link.specs.Sights.{Redeems, Side, Submits, side_of}
 use Rattle.demi_worker.specs.Stopping.{Stops}
-use Rattle.demi_server.specs.Closed.{Added}
+use Rattle.demi_closed.specs.Closed.{Added}
 use Rattle.demi_server.specs.ContextPorts.{Caller, OwesLess, OwesMore, OwesSame, SameButRx, SameButTx, Whole, side_at}
 use Rattle.demi_server.specs.Halting.{Gives, GivesStop, HaltsAt, HasLooked, Learns, LinkHalts, Takes}
-use Rattle.demi_server.specs.OnlyLink.{store_stop}
+use Rattle.demi_closed.specs.OnlyLink.{store_stop}
 use Rattle.demi_server.proofs.ContextSides.{some_pass}
 use Rattle.demi_server.proofs.ContextSubmits.{rx_low, tx_low}
 use Rattle.demi_server.proofs.ContextTries.{only_service, rx_in, rx_others, rx_tells, tx_in, tx_others, tx_tells}

@@ -23,15 +23,15 @@ use Rattle.demi_server.specs.Building.{ends_of}
 use Rattle.demi_server.specs.ContextPorts.{Caller, Whole}
 use Rattle.demi_server.specs.Ending.{LogCame, OneEnded}
 use Rattle.demi_server.specs.Gathering.{AllDevices}
-use Rattle.demi_server.specs.LinkClosed.{LinkMoved, LinkResult, WasServed, ports_of}
-use Rattle.demi_server.specs.OnlyLink.{OneServed}
-use Rattle.demi_server.specs.Reading.{OnlyDueReads}
+use Rattle.demi_closed.specs.LinkClosed.{LinkMoved, LinkResult, WasServed, ports_of}
+use Rattle.demi_closed.specs.OnlyLink.{OneServed}
+use Rattle.demi_closed.specs.Reading.{OnlyDueReads}
 use Rattle.demi_server.specs.Session.{HasCause, RxEndValue, TxEndValue}
 use Rattle.demi_server.specs.declared.parts.Parts.{Parts}
 use Rattle.demi_server.proofs.Causes.{admitted_on, read_rose, write_rose}
-use Rattle.demi_server.proofs.Entries.{behind_on}
+use Rattle.demi_closed.proofs.Entries.{behind_on}
 use Rattle.demi_server.proofs.LogFaults.{Failed, log_has_failed}
-use Rattle.demi_server.proofs.NeverBegan.{settle}
+use Rattle.demi_closed.proofs.NeverBegan.{settle}
 use Rattle.demi_server.proofs.TakenApart.{TakenApart}
 
 -- the records that a log has at the end, and what became of it

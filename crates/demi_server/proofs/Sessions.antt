@@ -26,12 +26,12 @@ use Rattle.demi_server.specs.Ending.{LogCame, OneCame, OneEnded}
 use Rattle.demi_server.specs.Gathering.{AllDevices, Have}
 use Rattle.demi_server.specs.Logs.{Contents, HadRecords, IsEntryFront, LogGrew, Unmade, contents, contents_of, log_at, opened_log}
 use Rattle.demi_server.specs.Outcomes.{told_of}
-use Rattle.demi_server.specs.Reading.{OnlyDueReads}
+use Rattle.demi_closed.specs.Reading.{OnlyDueReads}
 use Rattle.demi_server.specs.Session.{HasCause, LinkServed, RanOne, ReadWhatWasDue, RxEndValue, TxEndValue}
 use Rattle.demi_server.specs.declared.outcome.Outcome.{Outcome}
 use Rattle.demi_server.specs.declared.outcome.Outcome.TheVariants as outcome
 use Rattle.demi_server.specs.declared.parts.Parts.{Parts}
-use Rattle.demi_server.proofs.NoneStruck.{none_struck}
+use Rattle.demi_closed.proofs.NoneStruck.{none_struck}
 use Rattle.demi_server.proofs.Opens.{opened_part}
 
 -- a store's disk has no fewer faults later

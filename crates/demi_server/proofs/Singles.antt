@@ -8,7 +8,7 @@ use Rattle.demi_pdpix.specs.Seen.{AreNewPairs, IsNewPair, Pair}
 use Rattle.demi_port.specs.Seen.{DeviceValue, EndValue, PassValue, PortId}
 use Rattle.demi_port_core.specs.Trails.{Behind}
 use Rattle.demi_worker.specs.Stopping.{Stops}
-use Rattle.demi_server.specs.Closed.{Added, OnlyBy}
+use Rattle.demi_closed.specs.Closed.{Added, OnlyBy}
 
 -- the one of a list of one
 pub only : {A : Type 0} (xs : List A) → length xs ≡ 1 → (x : A) × (xs ≡ x ∷ [])

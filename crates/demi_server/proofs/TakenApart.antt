@@ -24,14 +24,14 @@ use Rattle.demi_streamq.specs.declared.tx_op.TxOp.TheVariants as tx_op
 use Rattle.demi_streamq.specs.declared.tx_out.TxOut.{TxOut}
 use Rattle.demi_worker.specs.declared.ended.Ended.{Ended}
 use Rattle.demi_server.specs.Building.{IsLinkNew, LinkDevices, ends_of, rx_of, tx_of}
-use Rattle.demi_server.specs.Closed.{Added}
+use Rattle.demi_closed.specs.Closed.{Added}
 use Rattle.demi_server.specs.ContextPorts.{Caller, Whole, side_at}
 use Rattle.demi_server.specs.ContextSights.{ports_of, sight_of}
 use Rattle.demi_server.specs.Ending.{SessionEnded}
 use Rattle.demi_server.specs.Gathering.{AllDevices}
 use Rattle.demi_server.specs.Hands.{HandValue, HasServed, ServedLink}
-use Rattle.demi_server.specs.LinkClosed.{PortsClosed, WasServed}
-use Rattle.demi_server.specs.OnlyLink.{ServesOne, WentOn, store_stop}
+use Rattle.demi_closed.specs.LinkClosed.{PortsClosed, WasServed}
+use Rattle.demi_closed.specs.OnlyLink.{ServesOne, WentOn, store_stop}
 use Rattle.demi_server.specs.Runs.{RxRan, TxRan}
 use Rattle.demi_server.specs.Session.{RxEndValue, TxEndValue}
 use Rattle.demi_server.specs.Working.{BothDone}

@@ -19,7 +19,7 @@ use Rattle.demi_server.specs.ContextPorts.{Caller, Whole}
 use Rattle.demi_server.specs.Gathering.{AllDevices, AreFor, AreUnused, Have}
 use Rattle.demi_server.specs.Hands.{Done, HandValue, HasFinished, HasServed}
 use Rattle.demi_server.specs.Outcomes.{told_of}
-use Rattle.demi_server.specs.Reading.{OnlyDueReads}
+use Rattle.demi_closed.specs.Reading.{OnlyDueReads}
 use Rattle.demi_server.specs.Runs.{MemRan, RxRan, StoreRan, TxRan}
 use Rattle.demi_server.specs.Session.{LinkServed, OnlyOne, RxEndValue, TxEndValue}
 use Rattle.demi_server.specs.Working.{BothDone, EachBecame, Then}

@@ -13,9 +13,9 @@ use Rattle.demi_pdpix.specs.declared.kind.PortKind.{PortKind}
 use Rattle.demi_pdpix.specs.declared.kind.PortKind.TheVariants.{Memory, Service, Journal, Receiving, Sending, Nowhere}
 use Rattle.demi_link.specs.Sights.{Redeems, Side, Submits, side_of}
 use Rattle.demi_worker.specs.Stopping.{Stops}
-use Rattle.demi_server.specs.Closed.{Added}
+use Rattle.demi_closed.specs.Closed.{Added}
 use Rattle.demi_server.specs.ContextPorts.{Caller, OwesSame, SameButRx, SameButTx, SameRx, SameRxBut, SameSides, SameStore, SameTx, SameTxBut, Whole, side_at}
-use Rattle.demi_server.specs.OnlyLink.{store_stop}
+use Rattle.demi_closed.specs.OnlyLink.{store_stop}
 
 -- the pass of the memory queues has the same
 abbrev pub SameMemory : Caller → Caller → Type 0

@@ -1,5 +1,4 @@
 pub mod Building
-pub mod Closed
 pub mod ContextLaws
 pub mod ContextLedgers
 pub mod ContextPorts
@@ -8,15 +7,11 @@ pub mod Ending
 pub mod Gathering
 pub mod Halting
 pub mod Hands
-pub mod LinkClosed
 pub mod Logs
-pub mod OnlyLink
 pub mod Outcomes
 pub mod Ran
-pub mod Reading
 pub mod Runs
 pub mod Session
 pub mod Staging
 pub mod Stations
-pub mod TextEnds
 pub mod Working

@@ -18,12 +18,12 @@ use Rattle.demi_streamq.specs.Sending as tx
 use Rattle.demi_streamq.specs.declared.rx_op.RxOp.{RxOp}
 use Rattle.demi_streamq.specs.declared.rx_told.RxTold.{RxTold}
 use Rattle.demi_streamq.specs.declared.tx_op.TxOp.{TxOp}
-use Rattle.demi_server.specs.LinkClosed.{LinkMoved}
+use Rattle.demi_closed.specs.LinkClosed.{LinkMoved}
 use Rattle.demi_server.specs.Logs.{HadRecords, LogGrew, log_at}
-use Rattle.demi_server.specs.OnlyLink.{OneServed}
+use Rattle.demi_closed.specs.OnlyLink.{OneServed}
 use Rattle.demi_server.specs.Outcomes.{told_of}
-use Rattle.demi_server.specs.Reading.{OnlyDueReads}
-use Rattle.demi_server.specs.TextEnds.{ReadToEnd}
+use Rattle.demi_closed.specs.Reading.{OnlyDueReads}
+use Rattle.demi_closed.specs.TextEnds.{ReadToEnd}
 use Rattle.demi_server.specs.declared.outcome.Outcome.{Outcome}
 
 -- the ends of a receiving and of a sending port

@@ -17,7 +17,6 @@
 #![tactic(auto)]
 
 mod both;
-mod closing;
 mod context;
 mod crew;
 mod devices;
@@ -33,7 +32,6 @@ mod outcome;
 mod over;
 mod parts;
 mod plan;
-mod reading;
 mod running;
 mod serving;
 mod shutting;
@@ -44,15 +42,11 @@ mod tests;
 mod whole;
 
 pub use both::Both;
-pub use closing::{
-    a_link_that_was_done_left_no_torn_entry, a_served_link_closes, a_session_of_one_link_closes,
-};
 pub use context::{Context, Ledger};
 pub use crew::work_all;
 pub use ending::a_session_of_one_link_ends;
 pub use job::{Crew, Job};
 pub use outcome::{Outcome, outcome_of};
 pub use plan::Plan;
-pub use reading::a_served_link_made_only_due_reads;
 pub use station::Station;
 pub use whole::{SessionEnd, session};

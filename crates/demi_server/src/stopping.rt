@@ -6,10 +6,10 @@ ghost use Rattle.demi_pdpix.specs.Kinds.{kind_of};
 ghost use Rattle.demi_pdpix.specs.Owing.{Owes};
 ghost use Rattle.demi_pdpix.specs.Seen.{IsOf};
 ghost use Rattle.demi_pdpix.specs.declared.kind.PortKind.TheVariants.{Service};
-ghost use Rattle.demi_server.specs.Closed.{Added};
+ghost use Rattle.demi_closed.specs.Closed.{Added};
 ghost use Rattle.demi_server.specs.ContextPorts.{OwesLess, OwesMore, OwesSame, SameRx, SameTx};
 ghost use Rattle.demi_server.specs.Halting.{GivesStop, HaltsAt, LinkHalts, Takes};
-ghost use Rattle.demi_server.specs.OnlyLink.{store_stop};
+ghost use Rattle.demi_closed.specs.OnlyLink.{store_stop};
 
 use crate::context::{receiving, sending};
 use crate::holding::{hold, let_go};

@@ -9,11 +9,11 @@ use Rattle.demi_served.specs.Talks.{Talk}
 use Rattle.demi_link.specs.Fitting.{Fits, HeardOf}
 use Rattle.demi_link.specs.Heard.{IsLogFault}
 use Rattle.demi_link.specs.declared.phase.Phase.TheVariants.{Over}
-use Rattle.demi_server.specs.LinkClosed.{ports_of}
-use Rattle.demi_server.specs.Reading.{OnlyDueReads}
-use Rattle.demi_server.proofs.LinkCloses as link
-use Rattle.demi_server.proofs.NeverBegan.{settle}
-use Rattle.demi_server.proofs.NeverRead.{never_read}
+use Rattle.demi_closed.specs.LinkClosed.{ports_of}
+use Rattle.demi_closed.specs.Reading.{OnlyDueReads}
+use Rattle.demi_closed.proofs.LinkCloses as link
+use Rattle.demi_closed.proofs.NeverBegan.{settle}
+use Rattle.demi_closed.proofs.NeverRead.{never_read}
 use Rattle.demi_server.proofs.OneEnds.{failed_there, log_came, log_failed, one_ended, why_of}
 use Rattle.demi_server.proofs.TakenApart.{taken_apart}
 use Rattle.demi_server.proofs.ending.a_session_of_one_link_ends.Goals as goal

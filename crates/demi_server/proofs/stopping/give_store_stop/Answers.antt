@@ -2,7 +2,7 @@ use Rattle.std.proofs.Common.{refl, subst, sym, ◌∙◌}
 use Rattle.demi_pdpix.specs.Seen.{IsOf}
 use Rattle.demi_pdpix.specs.declared.kind.PortKind.TheVariants.{Service}
 use Rattle.demi_server.specs.Halting.{HasLooked}
-use Rattle.demi_server.specs.OnlyLink.{store_stop}
+use Rattle.demi_closed.specs.OnlyLink.{store_stop}
 use Rattle.demi_server.proofs.ContextOwing.{asks_owes}
 use Rattle.demi_server.proofs.Halting.{gives_after, gives_store_stop, looked_on, looked_same, none_looked}
 use Rattle.demi_server.proofs.stopping.give_store_stop.Goals as goal

@@ -33,12 +33,12 @@ use Rattle.demi_link.specs.Heard.{LastCame}
 use Rattle.demi_link.specs.Sights.{Sight}
 use Rattle.demi_link.specs.Talks.{DeskValue}
 use Rattle.demi_link.specs.declared.phase.Cause.{Cause}
-use Rattle.demi_server.specs.LinkClosed.{LinkMoved, LinkResult, PortsClosed, WasServed, is_read_out, ports_of}
-use Rattle.demi_server.specs.TextEnds.{ending_of}
-use Rattle.demi_server.proofs.EndsTold.{end_told}
-use Rattle.demi_server.proofs.Entries.{heard_is, knew_before, submitted_before}
-use Rattle.demi_server.proofs.NeverBegan.{keeps_of, over_of}
-use Rattle.demi_server.proofs.TextEnds.{ends_at}
+use Rattle.demi_closed.specs.LinkClosed.{LinkMoved, LinkResult, PortsClosed, WasServed, is_read_out, ports_of}
+use Rattle.demi_closed.specs.TextEnds.{ending_of}
+use Rattle.demi_closed.proofs.EndsTold.{end_told}
+use Rattle.demi_closed.proofs.Entries.{heard_is, knew_before, submitted_before}
+use Rattle.demi_closed.proofs.NeverBegan.{keeps_of, over_of}
+use Rattle.demi_closed.proofs.TextEnds.{ends_at}
 
 read_out_left : (left : Option (List ℕ)) → is_read_out left ≡ true → NoneLeft left
 read_out_left None e = tt

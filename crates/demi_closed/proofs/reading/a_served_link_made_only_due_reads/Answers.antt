@@ -1,5 +1,5 @@
-use Rattle.demi_server.proofs.ReadsMade.{only_due}
-use Rattle.demi_server.proofs.reading.a_served_link_made_only_due_reads.Goals as goal
+use Rattle.demi_closed.proofs.ReadsMade.{only_due}
+use Rattle.demi_closed.proofs.reading.a_served_link_made_only_due_reads.Goals as goal
 
 pub returns : goal.returns
 returns g c = λ ports s d x rx_old rx_new tx_old tx_new l t told limit old fits known p r as_store.

@@ -11,8 +11,8 @@ ghost use Rattle.demi_spec.specs.Record.{Record};
 ghost use Rattle.demi_spec.specs.Store.{serial};
 ghost use Rattle.demi_streamq.specs.RxGoing.{RxValue};
 ghost use Rattle.demi_streamq.specs.TxGoing.{TxValue};
-ghost use Rattle.demi_server.specs.LinkClosed.{LinkResult, PortsClosed, ports_of};
-ghost use Rattle.demi_server.specs.Reading.{OnlyDueReads};
+ghost use Rattle.demi_closed.specs.LinkClosed.{LinkResult, PortsClosed, ports_of};
+ghost use Rattle.demi_closed.specs.Reading.{OnlyDueReads};
 
 use demi_core::{Sink, Source};
 use demi_link::{an_ended_link_popped_all, an_ended_link_read_what_was_due};

@@ -5,9 +5,9 @@ use Rattle.demi_spec.specs.Reply.{Reply, spelling}
 use Rattle.demi_spec.specs.Store.{serial}
 use Rattle.demi_served.specs.Served.{WholeTalk}
 use Rattle.demi_link.specs.Ends.{IsDone}
-use Rattle.demi_server.specs.OnlyLink.{run_of}
-use Rattle.demi_server.proofs.OnlyCloses.{all_taken, asked_all, ends_all, last, one_more}
-use Rattle.demi_server.proofs.closing.a_session_of_one_link_closes.Goals as goal
+use Rattle.demi_closed.specs.OnlyLink.{run_of}
+use Rattle.demi_closed.proofs.OnlyCloses.{all_taken, asked_all, ends_all, last, one_more}
+use Rattle.demi_closed.proofs.closing.a_session_of_one_link_closes.Goals as goal
 
 pub returns : goal.returns
 returns f = λ ports s now d c pass id seat end l e t records w went one number added ends alone r left.

@@ -13,7 +13,7 @@ use Rattle.demi_link.specs.Fitting.{ops_of, places}
 use Rattle.demi_link.specs.Sights.{Side}
 use Rattle.demi_pdpix.specs.Lanes.{IsEndOf}
 use Rattle.demi_served.proofs.Entries.{all_of_pass, get_elem}
-use Rattle.demi_server.specs.Closed.{Added, OnlyBy}
+use Rattle.demi_closed.specs.Closed.{Added, OnlyBy}
 
 none_below_more : {T : Type 0} (p q : ℕ) (xs ys : List (ℕ × T)) → p ≤ q → NoneBelow p xs → NoneBelow q ys → NoneBelow p (xs ++ ys)
 none_below_more p q [] [] l x y = tt

@@ -22,7 +22,7 @@ use Rattle.demi_link.specs.Talks.{DeskValue}
 use Rattle.demi_link.specs.declared.phase.Cause.{Cause}
 use Rattle.demi_link.specs.declared.phase.Phase.TheVariants.{Over}
 use Rattle.demi_worker.specs.Ending.{NeverBegan}
-use Rattle.demi_server.specs.LinkClosed.{WasServed}
+use Rattle.demi_closed.specs.LinkClosed.{WasServed}
 
 module _ (ports : ℕ) (s : Sight) (d : DeskValue) (c : Cause) where
   -- what is so in both cases

@@ -32,7 +32,7 @@ use Rattle.demi_streamq.specs.declared.rx_out.RxOut.{RxOut}
 use Rattle.demi_streamq.specs.declared.tx_op.TxOp.{TxOp}
 use Rattle.demi_streamq.specs.declared.tx_op.TxOp.TheVariants.{Push, Close, Stop}
 use Rattle.demi_streamq.specs.declared.tx_out.TxOut.TheVariants.{Pushed}
-use Rattle.demi_server.specs.Reading.{EachGaveSome, IsDueRead}
+use Rattle.demi_closed.specs.Reading.{EachGaveSome, IsDueRead}
 
 -- the first replies of the one-thread store are those to the first requests
 take_serial : (index : ℕ) (records : List Record) (limit n : ℕ) (asks : List Asked) → take n (serial_from index records limit asks).replies ≡ (serial_from index records limit (take n asks)).replies

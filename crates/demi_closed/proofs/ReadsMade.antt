@@ -35,13 +35,13 @@ use Rattle.demi_streamq.specs.declared.rx_told.RxTold.{RxTold}
 use Rattle.demi_streamq.specs.declared.tx_op.TxOp.{TxOp}
 use Rattle.demi_streamq.specs.declared.tx_op.TxOp.TheVariants as tx_op
 use Rattle.demi_streamq.specs.declared.tx_out.TxOut.{TxOut}
-use Rattle.demi_server.specs.LinkClosed.{LinkResult, PortsClosed, ports_of}
-use Rattle.demi_server.specs.Reading.{OnlyDueReads}
-use Rattle.demi_server.proofs.Entries.{knew_before, submitted_before}
-use Rattle.demi_server.proofs.LinkCloses.{pieces_are}
-use Rattle.demi_server.proofs.PopsRead.{ReadAt, read_at}
-use Rattle.demi_server.proofs.ReadsDue.{due_read, were_written}
-use Rattle.demi_server.proofs.ReadsOf.{all_gave, reads_of, were_made}
+use Rattle.demi_closed.specs.LinkClosed.{LinkResult, PortsClosed, ports_of}
+use Rattle.demi_closed.specs.Reading.{OnlyDueReads}
+use Rattle.demi_closed.proofs.Entries.{knew_before, submitted_before}
+use Rattle.demi_closed.proofs.LinkCloses.{pieces_are}
+use Rattle.demi_closed.proofs.PopsRead.{ReadAt, read_at}
+use Rattle.demi_closed.proofs.ReadsDue.{due_read, were_written}
+use Rattle.demi_closed.proofs.ReadsOf.{all_gave, reads_of, were_made}
 
 module _ {I O : Type 0} (taken : I → ℕ) (left : I → Option (List ℕ)) (read_faults : I → ℕ) (reads : I → ℕ → Option (List ℕ) → I → Type 0) (written : O → Option (List ℕ)) (write_faults : O → ℕ)
     (ports : ℕ) (s : Sight) (d : DeskValue) (c : Cause) (fits : Fits ports s d (Over c)) (known : IsKnown c)

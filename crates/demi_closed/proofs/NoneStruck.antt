@@ -20,7 +20,7 @@ use Rattle.demi_served.specs.Links.{LinkPorts}
 use Rattle.demi_served.specs.Talks.{LinkRun, Run, Talk}
 use Rattle.demi_link.specs.Ends.{IsDone}
 use Rattle.demi_link.specs.declared.phase.Cause.{Cause}
-use Rattle.demi_server.specs.OnlyLink.{OneServed, run_of}
+use Rattle.demi_closed.specs.OnlyLink.{OneServed, run_of}
 
 some_is : {X : Type 0} {x y : X} → Some x ≡ Some y → x ≡ y
 some_is h = cc

@@ -2,9 +2,9 @@ use Rattle.std.proofs.Common.{false, true}
 use Rattle.demi_port.specs.Seen.{known_at}
 use Rattle.demi_spec.specs.Input.{asked}
 use Rattle.demi_streamq.specs.RxKept.{all_bytes}
-use Rattle.demi_server.proofs.LinkCloses as link
-use Rattle.demi_server.proofs.NeverBegan.{asked_none, over_of, popped_none, settle, wrote_none}
-use Rattle.demi_server.proofs.closing.a_served_link_closes.Goals as goal
+use Rattle.demi_closed.proofs.LinkCloses as link
+use Rattle.demi_closed.proofs.NeverBegan.{asked_none, over_of, popped_none, settle, wrote_none}
+use Rattle.demi_closed.proofs.closing.a_served_link_closes.Goals as goal
 
 pub returns : goal.returns
 returns g c = λ ports s d x rx_old rx_new tx_old tx_new w p.

@@ -17,7 +17,7 @@ use Rattle.demi_link.specs.Talks.{DeskValue}
 use Rattle.demi_link.specs.declared.phase.Cause.{Cause}
 use Rattle.demi_link.specs.declared.phase.Cause.TheVariants as cause
 use Rattle.demi_link.specs.declared.phase.Phase.TheVariants.{Over}
-use Rattle.demi_server.specs.TextEnds.{ending_of}
+use Rattle.demi_closed.specs.TextEnds.{ending_of}
 
 cut_test : (t ended : Bool) (q : Request) (r : List ℕ) → cond t (Ends (cut_short ended)) (Whole q r) ≡ Ends EndFrame → ⊥
 cut_test true true q r h = cc

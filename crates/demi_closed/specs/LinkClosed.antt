@@ -26,8 +26,8 @@ use Rattle.demi_link.specs.Talks.{DeskValue}
 use Rattle.demi_link.specs.declared.phase.Cause.{Cause}
 use Rattle.demi_link.specs.declared.phase.Phase.TheVariants.{Over}
 use Rattle.demi_worker.specs.Ending.{NeverBegan}
-use Rattle.demi_server.specs.Closed.{Added, OnlyBy, RxClosed, TxClosed}
-use Rattle.demi_server.specs.TextEnds.{ReadToEnd}
+use Rattle.demi_closed.specs.Closed.{Added, OnlyBy, RxClosed, TxClosed}
+use Rattle.demi_closed.specs.TextEnds.{ReadToEnd}
 
 -- whether nothing is left of an input, as far as it tells
 abbrev pub is_read_out : Option (List ℕ) → Bool

@@ -16,12 +16,12 @@ use Rattle.demi_streamq.specs.declared.rx_op.RxOp.{RxOp}
 use Rattle.demi_streamq.specs.declared.rx_out.RxOut.{RxOut}
 use Rattle.demi_streamq.specs.declared.rx_told.RxTold.{RxTold}
 use Rattle.demi_worker.specs.Ending.{NeverBegan}
-use Rattle.demi_server.specs.LinkClosed.{LinkResult, PortsClosed, WasServed, ports_of}
-use Rattle.demi_server.specs.Reading.{OnlyDueReads}
-use Rattle.demi_server.proofs.LinkCloses.{own_pop, pieces_are}
-use Rattle.demi_server.proofs.NeverBegan.{popped_none}
-use Rattle.demi_server.proofs.PopsRead.{ReadAt, read_at}
-use Rattle.demi_server.proofs.ReadsOf.{all_gave, reads_of, were_made}
+use Rattle.demi_closed.specs.LinkClosed.{LinkResult, PortsClosed, WasServed, ports_of}
+use Rattle.demi_closed.specs.Reading.{OnlyDueReads}
+use Rattle.demi_closed.proofs.LinkCloses.{own_pop, pieces_are}
+use Rattle.demi_closed.proofs.NeverBegan.{popped_none}
+use Rattle.demi_closed.proofs.PopsRead.{ReadAt, read_at}
+use Rattle.demi_closed.proofs.ReadsOf.{all_gave, reads_of, were_made}
 
 no_middle : {A : Type 0} (xs before after : List A) (x : A) → xs ≡ [] → xs ≡ before ++ x ∷ after → ⊥
 no_middle xs [] after x none is = absurd (let e : x ∷ after ≡ [] = sym is ∙ none in cc)

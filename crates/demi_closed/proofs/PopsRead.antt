@@ -15,8 +15,8 @@ use Rattle.demi_streamq.specs.declared.rx_out.RxOut.{RxOut}
 use Rattle.demi_streamq.specs.declared.rx_out.RxOut.TheVariants.{Piece, End, Fault, Broken, NoSlot, Stopped, Halted}
 use Rattle.demi_streamq.specs.declared.rx_told.RxTold.{RxTold}
 use Rattle.demi_streamq.specs.declared.rx_told.RxTold.TheVariants.{AtEnd, Bytes, Failed, Refused}
-use Rattle.demi_server.specs.Reading.{EachGaveSome}
-use Rattle.demi_server.proofs.ReadsOf.{few, read_of, reads_of}
+use Rattle.demi_closed.specs.Reading.{EachGaveSome}
+use Rattle.demi_closed.proofs.ReadsOf.{few, read_of, reads_of}
 
 some_is : {X : Type 0} {x y : X} → Some x ≡ Some y → x ≡ y
 some_is e = cc

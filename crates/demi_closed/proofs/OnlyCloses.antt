@@ -31,10 +31,10 @@ use Rattle.demi_link.specs.declared.phase.Cause.{Cause}
 use Rattle.demi_link.specs.declared.phase.Cause.TheVariants as cause
 use Rattle.demi_link.specs.declared.phase.Phase.TheVariants.{Over}
 use Rattle.demi_pdpix.specs.Lanes.{IsEndOf}
-use Rattle.demi_server.specs.Closed.{Added}
-use Rattle.demi_server.specs.LinkClosed.{LinkResult, WasServed}
-use Rattle.demi_server.specs.OnlyLink.{ServesOne, WentOn, run_of, store_stop}
-use Rattle.demi_server.proofs.NeverBegan.{few_none, keeps_of, settle, worker_keeps}
+use Rattle.demi_closed.specs.Closed.{Added}
+use Rattle.demi_closed.specs.LinkClosed.{LinkResult, WasServed}
+use Rattle.demi_closed.specs.OnlyLink.{ServesOne, WentOn, run_of, store_stop}
+use Rattle.demi_closed.proofs.NeverBegan.{few_none, keeps_of, settle, worker_keeps}
 
 all_of_draws : (P : Draw → Type 0) (draws : List Draw) → ((i : ℕ) (x : Draw) → slice_get draws i ≡ Some x → P x) → AllByRecursion P draws
 all_of_draws P [] f = tt

@@ -15,9 +15,9 @@ ghost use Rattle.demi_served.specs.Asking.{Puts};
 ghost use Rattle.demi_served.specs.Ends.{StoreEnd, StorePass};
 ghost use Rattle.demi_served.specs.Links.{LinkPorts};
 ghost use Rattle.demi_served.specs.Talks.{LinkRun, Talk};
-ghost use Rattle.demi_server.specs.Closed.{Added};
-ghost use Rattle.demi_server.specs.OnlyLink.{OneServed, ServesOne, WentOn, store_stop};
-ghost use Rattle.demi_server.specs.LinkClosed.{LinkMoved, LinkResult, PortsClosed, WasServed, ports_of};
+ghost use Rattle.demi_closed.specs.Closed.{Added};
+ghost use Rattle.demi_closed.specs.OnlyLink.{OneServed, ServesOne, WentOn, store_stop};
+ghost use Rattle.demi_closed.specs.LinkClosed.{LinkMoved, LinkResult, PortsClosed, WasServed, ports_of};
 ghost use Rattle.demi_streamq.specs.RxGoing.{RxValue};
 ghost use Rattle.demi_streamq.specs.TxGoing.{TxValue};
 

@@ -8,7 +8,7 @@ use Rattle.demi_streamq.specs.RxGoing.{EndDid, RxDid, RxRun}
 use Rattle.demi_streamq.specs.RxKept.{all_bytes, bytes_of, ended_after}
 use Rattle.demi_streamq.specs.declared.rx_out.RxOut.{RxOut}
 use Rattle.demi_streamq.specs.declared.rx_out.RxOut.TheVariants.{Piece, End, Fault, Broken, NoSlot, Stopped, Halted}
-use Rattle.demi_server.specs.Reading.{EachRead}
+use Rattle.demi_closed.specs.Reading.{EachRead}
 
 -- the read of an end, where one was told before or not
 abbrev pub end_read : Bool → List (Option (List ℕ))
