@@ -4,8 +4,8 @@ use Rattle.demi_link.specs.Sights.{side_of}
 use Rattle.demi_pdpix.specs.Owing.{Owes}
 use Rattle.demi_worker.specs.declared.ended.Ended.{Ended}
 use Rattle.demi_closed.specs.Closed.{Added}
-use Rattle.demi_server.specs.ContextPorts.{Caller, Whole, side_at}
-use Rattle.demi_server.specs.ContextSights.{sight_of}
+use Rattle.demi_context.specs.ContextPorts.{Caller, Whole, side_at}
+use Rattle.demi_context.specs.ContextSights.{sight_of}
 use Rattle.demi_server.specs.Hands.{Done, HandValue, HasFinished, HasServed, ServedLink}
 use Rattle.demi_closed.specs.OnlyLink.{store_stop}
 

@@ -3,7 +3,7 @@ use Rattle.std.proofs.Common.{◌≡◌, ◌∙◌, ℕ, ◌+◌, List, [], ◌�
 use Rattle.demi_pdpix.specs.Owing.{Owes}
 use Rattle.demi_pdpix.specs.Seen.{IsOf}
 use Rattle.demi_worker.specs.declared.ended.Ended.{Ended}
-use Rattle.demi_server.specs.ContextPorts.{Caller, Whole}
+use Rattle.demi_context.specs.ContextPorts.{Caller, Whole}
 use Rattle.demi_server.specs.Hands.{Done, HandValue, HasFinished, HasServed, MayFinish}
 use Rattle.demi_server.specs.Working.{IsCrewDone, Then}
 use Rattle.demi_server.proofs.Callers.{owes_none}

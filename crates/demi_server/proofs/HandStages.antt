@@ -6,8 +6,8 @@ use Rattle.demi_link.specs.Linked.{LinkValue}
 use Rattle.demi_worker.specs.Standing.{Stands}
 use Rattle.demi_worker.specs.declared.ended.Ended.{Ended}
 use Rattle.demi_worker.specs.declared.worker.Worker.{Worker}
-use Rattle.demi_server.specs.ContextPorts.{Caller, Whole}
-use Rattle.demi_server.specs.ContextSights.{ContextValue, ports_of, sight_of}
+use Rattle.demi_context.specs.ContextPorts.{Caller, Whole}
+use Rattle.demi_context.specs.ContextSights.{ContextValue, ports_of, sight_of}
 use Rattle.demi_server.specs.Hands.{HandValue, HasFinished, HasServed, ServedLink}
 use Rattle.demi_server.specs.Hands as value
 use Rattle.demi_server.specs.Staging.{IsUnused, StopsShared, stage_of}

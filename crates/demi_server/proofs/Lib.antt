@@ -1,21 +1,10 @@
 pub mod Backs
 mod Callers
 mod Causes
-mod ContextAsks
-mod ContextGoing
-mod ContextKinds
-mod ContextOwing
-mod ContextSides
-mod ContextSteps
-mod ContextStops
-mod ContextSubmits
-mod ContextTries
 mod CrewOfOne
 mod FaultsTold
 pub mod Gathered
 pub mod Growth
-mod Halting
-mod Halts
 mod HandSend
 mod HandStages
 pub mod Homes

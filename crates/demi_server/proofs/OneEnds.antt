@@ -20,7 +20,7 @@ use Rattle.demi_link.specs.declared.phase.Cause.TheVariants as cause
 use Rattle.demi_link.specs.declared.phase.Phase.TheVariants.{Over}
 use Rattle.demi_worker.specs.declared.ended.Ended.{Ended}
 use Rattle.demi_server.specs.Building.{ends_of}
-use Rattle.demi_server.specs.ContextPorts.{Caller, Whole}
+use Rattle.demi_context.specs.ContextPorts.{Caller, Whole}
 use Rattle.demi_server.specs.Ending.{LogCame, OneEnded}
 use Rattle.demi_server.specs.Gathering.{AllDevices}
 use Rattle.demi_closed.specs.LinkClosed.{LinkMoved, LinkResult, WasServed, ports_of}

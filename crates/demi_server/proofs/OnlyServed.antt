@@ -23,9 +23,9 @@ use Rattle.demi_worker.specs.declared.ended.Ended.{Ended}
 use Rattle.demi_worker.specs.declared.worker.Worker.{Worker}
 use Rattle.demi_worker.proofs.Leaving.{new_beside}
 use Rattle.demi_worker.proofs.Links.{others_of}
-use Rattle.demi_server.specs.ContextLedgers.{due_of, no_ledger}
-use Rattle.demi_server.specs.ContextPorts.{Caller, Whole, side_at}
-use Rattle.demi_server.specs.ContextSights.{ContextValue, Goes, ports_of, sight_of}
+use Rattle.demi_context.specs.ContextLedgers.{due_of, no_ledger}
+use Rattle.demi_context.specs.ContextPorts.{Caller, Whole, side_at}
+use Rattle.demi_context.specs.ContextSights.{ContextValue, Goes, ports_of, sight_of}
 use Rattle.demi_server.specs.Hands.{ServedLink}
 use Rattle.demi_server.specs.Staging.{IsUnused, MayTakeIn, TookIn}
 

@@ -25,8 +25,8 @@ use Rattle.demi_streamq.specs.declared.tx_out.TxOut.{TxOut}
 use Rattle.demi_worker.specs.declared.ended.Ended.{Ended}
 use Rattle.demi_server.specs.Building.{IsLinkNew, LinkDevices, ends_of, rx_of, tx_of}
 use Rattle.demi_closed.specs.Closed.{Added}
-use Rattle.demi_server.specs.ContextPorts.{Caller, Whole, side_at}
-use Rattle.demi_server.specs.ContextSights.{ports_of, sight_of}
+use Rattle.demi_context.specs.ContextPorts.{Caller, Whole, side_at}
+use Rattle.demi_context.specs.ContextSights.{ports_of, sight_of}
 use Rattle.demi_server.specs.Ending.{SessionEnded}
 use Rattle.demi_server.specs.Gathering.{AllDevices}
 use Rattle.demi_server.specs.Hands.{HandValue, HasServed, ServedLink}

@@ -15,7 +15,7 @@ use Rattle.demi_store.specs.Laws.{StoreBasis}
 use Rattle.demi_store.specs.declared.ask.StoreAsk.{StoreAsk}
 use Rattle.demi_store.specs.declared.told.StoreTold.{StoreTold}
 use Rattle.demi_worker.specs.declared.ended.Ended.{Ended}
-use Rattle.demi_server.specs.ContextPorts.{Caller, Whole}
+use Rattle.demi_context.specs.ContextPorts.{Caller, Whole}
 use Rattle.demi_server.specs.Gathering.{AllDevices, AreFor, AreUnused, Have}
 use Rattle.demi_server.specs.Hands.{Done, HandValue, HasFinished, HasServed}
 use Rattle.demi_server.specs.Outcomes.{told_of}

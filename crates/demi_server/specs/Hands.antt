@@ -12,8 +12,8 @@ use Rattle.demi_worker.specs.Ending.{IsServed, OwesNothing}
 use Rattle.demi_worker.specs.Stopping.{IsLeft}
 use Rattle.demi_worker.specs.declared.ended.Ended.{Ended}
 use Rattle.demi_closed.specs.Closed.{Added}
-use Rattle.demi_server.specs.ContextPorts.{Caller, SameRx, SameTx, Whole}
-use Rattle.demi_server.specs.ContextSights.{ContextValue, ports_of, sight_of}
+use Rattle.demi_context.specs.ContextPorts.{Caller, SameRx, SameTx, Whole}
+use Rattle.demi_context.specs.ContextSights.{ContextValue, ports_of, sight_of}
 use Rattle.demi_closed.specs.OnlyLink.{store_stop}
 
 -- a worker's work: it has not begun, and this is its caller; or it is done, and the caller is there again, with what became of its

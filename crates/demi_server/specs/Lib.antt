@@ -1,11 +1,6 @@
 pub mod Building
-pub mod ContextLaws
-pub mod ContextLedgers
-pub mod ContextPorts
-pub mod ContextSights
 pub mod Ending
 pub mod Gathering
-pub mod Halting
 pub mod Hands
 pub mod Logs
 pub mod Outcomes

@@ -1,7 +1,7 @@
 -- All devices of a session ran beside its one worker.
 use Rattle.std.specs.Prelude.{◌≡◌, ℕ, List, Option, Bool}
 use Rattle.demi_worker.specs.declared.ended.Ended.{Ended}
-use Rattle.demi_server.specs.ContextPorts.{Caller, Whole}
+use Rattle.demi_context.specs.ContextPorts.{Caller, Whole}
 use Rattle.demi_server.specs.Gathering.{AllDevices, AreFor, AreUnused, Have}
 use Rattle.demi_server.specs.Hands.{Done, HandValue, HasFinished, HasServed}
 use Rattle.demi_server.specs.Runs.{MemRan, RxRan, StoreRan, TxRan}

@@ -9,9 +9,9 @@ use Rattle.demi_worker.specs.Ending.{IsNew}
 use Rattle.demi_worker.specs.Standing.{LeavesOthers, Stands, taken_in}
 use Rattle.demi_worker.specs.declared.worker.Worker.{Worker}
 use Rattle.demi_closed.specs.Closed.{Added}
-use Rattle.demi_server.specs.ContextLedgers.{no_ledger}
-use Rattle.demi_server.specs.ContextPorts.{Caller, SameRx, SameTx, Whole}
-use Rattle.demi_server.specs.ContextSights.{ContextValue, Goes, ports_of, sight_of}
+use Rattle.demi_context.specs.ContextLedgers.{no_ledger}
+use Rattle.demi_context.specs.ContextPorts.{Caller, SameRx, SameTx, Whole}
+use Rattle.demi_context.specs.ContextSights.{ContextValue, Goes, ports_of, sight_of}
 use Rattle.demi_server.specs.Hands.{StageValue}
 use Rattle.demi_server.specs.Hands as value
 use Rattle.demi_closed.specs.OnlyLink.{store_stop}

@@ -1,7 +1,7 @@
 // What a session of one link comes to: a function that does nothing.
 ghost use Rattle.std.specs.Prelude.{List};
 ghost use Rattle.demi_served.specs.Ends.{StoreEnd};
-ghost use Rattle.demi_server.specs.ContextPorts.{Caller, Whole};
+ghost use Rattle.demi_context.specs.ContextPorts.{Caller, Whole};
 ghost use Rattle.demi_server.specs.Ending.{OneEnded, SessionEnded};
 ghost use Rattle.demi_server.specs.Gathering.{AllDevices};
 ghost use Rattle.demi_server.specs.Hands.{HandValue};

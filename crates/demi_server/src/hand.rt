@@ -7,9 +7,9 @@ ghost use Rattle.demi_server.specs.Staging.{StopsShared};
 mod only_link;
 mod stage;
 
-use crate::context::Context;
+use demi_context::Context;
 use crate::job::{Crew, Job};
-use crate::stopping::stop_shared;
+use demi_context::stop_shared;
 use arrayvec::ArrayVec;
 use demi_core::NoMemory;
 use demi_pdpix::{Caller, Demi};

@@ -2,7 +2,7 @@
 ghost use Rattle.std.specs.Prelude.{◌≡◌, [], ◌∷◌, IfErr, IfOk, length};
 ghost use Rattle.demi_pdpix.specs.Alone.{IsAlone};
 ghost use Rattle.demi_pdpix.specs.Seen.{AreNewCallers};
-ghost use Rattle.demi_server.specs.ContextPorts.{Caller as CallerOf};
+ghost use Rattle.demi_context.specs.ContextPorts.{Caller as CallerOf};
 ghost use Rattle.demi_server.specs.Gathering.{AreBack, AreFor, AreSameParts};
 ghost use Rattle.demi_server.specs.Ran.{RanOver};
 

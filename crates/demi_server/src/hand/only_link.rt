@@ -5,7 +5,7 @@ ghost use Rattle.demi_worker.specs.declared.ended.Ended.{Ended as End};
 ghost use Rattle.demi_server.specs.Hands.{ServedLink};
 ghost use Rattle.demi_server.specs.Staging.{IsUnused, MayTakeIn, TookIn};
 
-use crate::context::Context;
+use demi_context::Context;
 use arrayvec::ArrayVec;
 use demi_link::Cause;
 use demi_pdpix::{Caller, Demi};

@@ -1,5 +1,5 @@
 //! How far a worker's work has come.
-use crate::context::Context;
+use demi_context::Context;
 use arrayvec::ArrayVec;
 use demi_pdpix::Caller;
 use demi_store::StoreLaw;

@@ -3,7 +3,7 @@ use Rattle.demi_port.specs.Seen.{PassValue}
 use Rattle.demi_pdpix.proofs.Outstanding.{new_owes}
 use Rattle.demi_sched.specs.Holding.{SchedulerValue}
 use Rattle.demi_link.specs.Linked.{LinkValue}
-use Rattle.demi_server.specs.ContextSights.{ContextValue, ports_of}
+use Rattle.demi_context.specs.ContextSights.{ContextValue, ports_of}
 use Rattle.demi_server.specs.Hands.{Ready}
 use Rattle.demi_server.proofs.HandStages.{unused_first}
 use Rattle.demi_server.proofs.hand.Hand.make.Goals as goal

@@ -4,9 +4,9 @@ use Rattle.demi_pdpix.specs.Owing.{Owes}
 use Rattle.demi_link.specs.Sights.{nothing_due, worker_of}
 use Rattle.demi_served.specs.Alone.{AsksAll}
 use Rattle.demi_worker.specs.declared.ended.Ended.{Ended}
-use Rattle.demi_server.specs.ContextLedgers.{due_of}
-use Rattle.demi_server.specs.ContextPorts.{Caller}
-use Rattle.demi_server.specs.ContextSights.{ContextValue, sight_of}
+use Rattle.demi_context.specs.ContextLedgers.{due_of}
+use Rattle.demi_context.specs.ContextPorts.{Caller}
+use Rattle.demi_context.specs.ContextSights.{ContextValue, sight_of}
 use Rattle.demi_server.specs.Hands.{ServedLink}
 use Rattle.demi_server.proofs.OnlyServed.{may_take, nothing_due_below, served_link, the_end}
 use Rattle.demi_server.proofs.hand.only_link.serve_only_link.Goals as goal

@@ -1,0 +1,11 @@
+mod ContextAsks
+mod ContextGoing
+mod ContextKinds
+mod ContextOwing
+mod ContextSides
+mod ContextSteps
+mod ContextStops
+mod ContextSubmits
+mod ContextTries
+mod Halting
+mod Halts

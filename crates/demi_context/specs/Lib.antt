@@ -1,0 +1,5 @@
+pub mod ContextLaws
+pub mod ContextLedgers
+pub mod ContextPorts
+pub mod ContextSights
+pub mod Halting

@@ -1,4 +1,0 @@
-use Rattle.demi_server.proofs.context.notes.answered.Given as goal
-
-abbrev pub ghost-from : goal.ghost-from
-ghost-from a = record a._first.now.value { bits = a._second.now }

@@ -1,5 +1,0 @@
-use Rattle.demi_server.specs.ContextLedgers.{after_ask_of}
-use Rattle.demi_server.proofs.context.notes.asked.Given as goal
-
-abbrev pub ghost-from : goal.ghost-from
-ghost-from a = after_ask_of a._first.now.value a._second.now

@@ -1,5 +1,0 @@
-use Rattle.demi_server.specs.ContextLedgers.{after_claim}
-use Rattle.demi_server.proofs.context.notes.claimed.Given as goal
-
-abbrev pub ghost-from : goal.ghost-from
-ghost-from a = after_claim a._first.now.value

@@ -1,5 +1,0 @@
-use Rattle.demi_server.specs.ContextLedgers.{after_giving}
-use Rattle.demi_server.proofs.context.notes.giving.Given as goal
-
-abbrev pub ghost-from : goal.ghost-from
-ghost-from a = after_giving a._first.now.value a._second.now

@@ -1,6 +1,0 @@
-use Rattle.demi_link.specs.Events.{NoTokenFound}
-use Rattle.demi_server.specs.ContextLedgers.{with_event}
-use Rattle.demi_server.proofs.context.notes.no_token.Given as goal
-
-abbrev pub ghost-from : goal.ghost-from
-ghost-from a = with_event a._first.now.value NoTokenFound

@@ -1,4 +1,0 @@
-use Rattle.demi_server.proofs.context.notes.of_link.Given as goal
-
-abbrev pub ghost-from : goal.ghost-from
-ghost-from a = record { ledger = a._first.now.value; link = a._second.now }

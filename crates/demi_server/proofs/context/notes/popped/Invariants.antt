@@ -1,5 +1,0 @@
-use Rattle.demi_server.specs.ContextLedgers.{after_pop}
-use Rattle.demi_server.proofs.context.notes.popped.Given as goal
-
-abbrev pub ghost-from : goal.ghost-from
-ghost-from a = after_pop a._first.now.value a._second.now

@@ -1,5 +1,0 @@
-use Rattle.demi_server.specs.ContextLedgers.{after_tx_try}
-use Rattle.demi_server.proofs.context.notes.tx_tried.Given as goal
-
-abbrev pub ghost-from : goal.ghost-from
-ghost-from a = after_tx_try a._first.now.value.entry a._first.now.value.token a._second.now

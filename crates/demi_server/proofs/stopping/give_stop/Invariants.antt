@@ -1,9 +1,0 @@
-use Rattle.demi_pdpix.specs.Seen.{IsOf}
-use Rattle.demi_server.specs.Halting.{HasLooked}
-use Rattle.demi_server.proofs.stopping.give_stop.Given as goal
-
-abbrev pub invariant-loop : goal.invariant-loop
-invariant-loop g l = record {
-  of : IsOf l.demi l.caller;
-  looked : HasLooked l.initial.caller l.caller;
-}
