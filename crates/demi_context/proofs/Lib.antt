@@ -1,11 +1,11 @@
 mod ContextAsks
 mod ContextGoing
-mod ContextKinds
-mod ContextOwing
-mod ContextSides
+pub mod ContextKinds
+pub mod ContextOwing
+pub mod ContextSides
 mod ContextSteps
 mod ContextStops
-mod ContextSubmits
-mod ContextTries
-mod Halting
-mod Halts
+pub mod ContextSubmits
+pub mod ContextTries
+pub mod Halting
+pub mod Halts
