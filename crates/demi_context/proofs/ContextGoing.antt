@@ -12,7 +12,7 @@ use Rattle.demi_store.specs.declared.told.StoreTold.{StoreTold}
 use Rattle.demi_link.specs.Sights.{Side, Submits, side_of, worker_of}
 use Rattle.demi_link.specs.Talks.{TalkValue}
 use Rattle.demi_context.specs.ContextLedgers.{Entry, LedgerValue, after_ask_of, after_draw_of, after_giving}
-use Rattle.demi_context.specs.ContextPorts.{SameButStore, Whole}
+use Rattle.demi_context.specs.ContextPorts.{Caller, SameButStore, Whole}
 use Rattle.demi_context.specs.ContextSights.{ContextValue, Goes, sight_of}
 use Rattle.demi_context.proofs.ContextSteps.{noted_else}
 
@@ -26,6 +26,7 @@ module _ (a b : ContextValue) (link : ℕ) (talk : TalkValue) (demi : b.demi ≡
       record {
         demi = demi;
         number = number;
+        memory = ap (λ (x : Caller). side_of x.memory) caller;
         others = λ k other. record {
           heap = ap (λ (d : Whole). d.heap) demi;
           base = ap (λ (d : Whole). d.service.key.base) demi;
@@ -52,6 +53,7 @@ module _ (a b : ContextValue) (link : ℕ) (talk : TalkValue) (demi : b.demi ≡
       record {
         demi = demi;
         number = number;
+        memory = others.2;
         others = λ k other. record {
           heap = ap (λ (d : Whole). d.heap) demi;
           base = ap (λ (d : Whole). d.service.key.base) demi;

@@ -28,7 +28,7 @@ module _ (a b : ContextValue) (link : ℕ) (demi : b.demi ≡ a.demi) (number : 
       }
 
   pub stopped_goes : Goes link a b
-  stopped_goes = record { demi = demi; number = number; others = beside }
+  stopped_goes = record { demi = demi; number = number; memory = halts.memory; others = beside }
 
   pub stopped_link : IsStopped (sight_of a link) (sight_of b link)
   stopped_link = record {

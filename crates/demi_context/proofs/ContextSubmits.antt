@@ -91,11 +91,11 @@ log_some (p ∷ ps) low = p
 
 -- a scan changes nothing that links see
 pub scanned_same : (kind : PortKind) (mask bits : List ℕ) (c e : Caller) → ScannedAt kind mask bits c e → SameSides c e
-scanned_same Memory mask bits c e s = (ap (λ (x : Caller). side_of x.service) s.0, (λ k. ap (λ (x : Caller). side_at x.rx k) s.0), λ k. ap (λ (x : Caller). side_at x.tx k) s.0)
-scanned_same Service mask bits c e s = (scanned_side c.service e.service mask bits s.1, (λ k. ap (λ (x : Caller). side_at x.rx k) s.0), λ k. ap (λ (x : Caller). side_at x.tx k) s.0)
-scanned_same Journal mask bits c e s = (ap (λ (x : Caller). side_of x.service) s.0, (λ k. ap (λ (x : Caller). side_at x.rx k) s.0), λ k. ap (λ (x : Caller). side_at x.tx k) s.0)
-scanned_same (Receiving j) mask bits c e s = (ap (λ (x : Caller). side_of x.service) s.0, changed_same (Scanned mask bits) j c.rx e.rx (rx_some c) (λ p q h. scanned_side p q mask bits h) s.1, λ k. ap (λ (x : Caller). side_at x.tx k) s.0)
-scanned_same (Sending j) mask bits c e s = (ap (λ (x : Caller). side_of x.service) s.0, (λ k. ap (λ (x : Caller). side_at x.rx k) s.0), changed_same (Scanned mask bits) j c.tx e.tx (tx_some c) (λ p q h. scanned_side p q mask bits h) s.1)
+scanned_same Memory mask bits c e s = (ap (λ (x : Caller). side_of x.service) s.0, (λ k. ap (λ (x : Caller). side_at x.rx k) s.0), (λ k. ap (λ (x : Caller). side_at x.tx k) s.0), scanned_side c.memory e.memory mask bits s.1)
+scanned_same Service mask bits c e s = (scanned_side c.service e.service mask bits s.1, (λ k. ap (λ (x : Caller). side_at x.rx k) s.0), (λ k. ap (λ (x : Caller). side_at x.tx k) s.0), ap (λ (x : Caller). side_of x.memory) s.0)
+scanned_same Journal mask bits c e s = (ap (λ (x : Caller). side_of x.service) s.0, (λ k. ap (λ (x : Caller). side_at x.rx k) s.0), (λ k. ap (λ (x : Caller). side_at x.tx k) s.0), ap (λ (x : Caller). side_of x.memory) s.0)
+scanned_same (Receiving j) mask bits c e s = (ap (λ (x : Caller). side_of x.service) s.0, changed_same (Scanned mask bits) j c.rx e.rx (rx_some c) (λ p q h. scanned_side p q mask bits h) s.1, (λ k. ap (λ (x : Caller). side_at x.tx k) s.0), ap (λ (x : Caller). side_of x.memory) s.0)
+scanned_same (Sending j) mask bits c e s = (ap (λ (x : Caller). side_of x.service) s.0, (λ k. ap (λ (x : Caller). side_at x.rx k) s.0), changed_same (Scanned mask bits) j c.tx e.tx (tx_some c) (λ p q h. scanned_side p q mask bits h) s.1, ap (λ (x : Caller). side_of x.memory) s.0)
 scanned_same Nowhere mask bits c e s = absurd s
 
 pass_within : {D T B : Type 0} (mask bits : List ℕ) (p q : PassValue D T B) → Scanned mask bits p q → IsWithin bits mask

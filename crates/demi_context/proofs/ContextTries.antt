@@ -40,13 +40,13 @@ unknown_side token p q saw = elim saw.found [
 
 -- only a pass of one link's port changed
 pub only_rx : (P : RxPass → RxPass → Type 0) (k : ℕ) (c e : Caller) → OnRx c e → k < length c.rx → Changed k c.rx e.rx P → SameButRx k c e
-only_rx P k c e only low changed = (ap (λ (x : Caller). side_of x.service) only, changed_else P k c.rx e.rx low changed, λ j. ap (λ (x : Caller). side_at x.tx j) only)
+only_rx P k c e only low changed = (ap (λ (x : Caller). side_of x.service) only, changed_else P k c.rx e.rx low changed, (λ j. ap (λ (x : Caller). side_at x.tx j) only), ap (λ (x : Caller). side_of x.memory) only)
 
 pub only_tx : (P : TxPass → TxPass → Type 0) (k : ℕ) (c e : Caller) → OnTx c e → k < length c.tx → Changed k c.tx e.tx P → SameButTx k c e
-only_tx P k c e only low changed = (ap (λ (x : Caller). side_of x.service) only, (λ j. ap (λ (x : Caller). side_at x.rx j) only), changed_else P k c.tx e.tx low changed)
+only_tx P k c e only low changed = (ap (λ (x : Caller). side_of x.service) only, (λ j. ap (λ (x : Caller). side_at x.rx j) only), changed_else P k c.tx e.tx low changed, ap (λ (x : Caller). side_of x.memory) only)
 
 pub only_service : (c e : Caller) → OnService c e → SameButStore c e
-only_service c e only = ((λ j. ap (λ (x : Caller). side_at x.rx j) only), λ j. ap (λ (x : Caller). side_at x.tx j) only)
+only_service c e only = ((λ j. ap (λ (x : Caller). side_at x.rx j) only), (λ j. ap (λ (x : Caller). side_at x.tx j) only), ap (λ (x : Caller). side_of x.memory) only)
 
 -- A try at the receiving port of a link that there is.
 module _ (L P : Type 0) (heap : HeapId) (token k : ℕ) (c e : Caller) (low : k < length c.rx) where

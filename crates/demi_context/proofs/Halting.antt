@@ -16,7 +16,7 @@ use Rattle.demi_pdpix.proofs.Outstanding.{busy_due_at}
 use Rattle.demi_streamq.specs.declared.rx_op.RxOp.TheVariants as receiving
 use Rattle.demi_streamq.specs.declared.tx_op.TxOp.TheVariants as sending
 use Rattle.demi_link.specs.Sights.{Side, side_of}
-use Rattle.demi_context.specs.ContextPorts.{Caller, SameSides, Whole, rx_port, side_at, tx_port}
+use Rattle.demi_context.specs.ContextPorts.{Caller, SameButMemory, Whole, rx_port, side_at, tx_port}
 use Rattle.demi_context.specs.Halting.{Gives, GivesStop, HasLooked}
 use Rattle.demi_closed.specs.OnlyLink.{store_stop}
 use Rattle.demi_context.proofs.ContextOwing.{none_owes, same_owes}
@@ -25,10 +25,10 @@ use Rattle.demi_context.proofs.ContextSubmits.{rx_some, rx_submitted, tx_some, t
 use Rattle.demi_context.proofs.ContextTries.{only_service}
 
 -- only the pass of the memory queues changed, or that of a log's queue
-pub only_memory : (c e : Caller) → OnMemory c e → SameSides c e
+pub only_memory : (c e : Caller) → OnMemory c e → SameButMemory c e
 only_memory c e s = (ap (λ (x : Caller). side_of x.service) s, (λ k. ap (λ (x : Caller). side_at x.rx k) s), λ k. ap (λ (x : Caller). side_at x.tx k) s)
 
-only_journal : (c e : Caller) → OnJournal c e → SameSides c e
+only_journal : (c e : Caller) → OnJournal c e → SameButMemory c e
 only_journal c e s = (ap (λ (x : Caller). side_of x.service) s, (λ k. ap (λ (x : Caller). side_at x.rx k) s), λ k. ap (λ (x : Caller). side_at x.tx k) s)
 
 -- Looks.
@@ -110,7 +110,7 @@ gives_after d Memory token b c e l g = (subst (λ (p : Side _ _). Gives token me
 gives_after d Service token b c e l g = (subst (λ (p : Side _ _). Gives token store_stop p (side_of e.service)) l.sides.0 g.0, g.1 ∙ l.memory, (λ k. g.2 k ∙ l.sides.1 k), λ k. g.3 k ∙ l.sides.2 k)
 gives_after d Journal token b c e l g = tt
 gives_after d (Receiving k) token b c e l g = λ low. let h = g low in
-    (subst (λ (p : Side _ _). Gives token receiving.Stop p (side_at e.rx k)) (l.sides.1 k) h.0, (h.1.0 ∙ l.sides.0, (λ j other. h.1.1 j other ∙ l.sides.1 j), λ j. h.1.2 j ∙ l.sides.2 j))
+    (subst (λ (p : Side _ _). Gives token receiving.Stop p (side_at e.rx k)) (l.sides.1 k) h.0, (h.1.0 ∙ l.sides.0, (λ j other. h.1.1 j other ∙ l.sides.1 j), (λ j. h.1.2 j ∙ l.sides.2 j), h.1.3 ∙ l.memory))
 gives_after d (Sending k) token b c e l g = λ low. let h = g low in
-    (subst (λ (p : Side _ _). Gives token sending.Stop p (side_at e.tx k)) (l.sides.2 k) h.0, (h.1.0 ∙ l.sides.0, (λ j. h.1.1 j ∙ l.sides.1 j), λ j other. h.1.2 j other ∙ l.sides.2 j))
+    (subst (λ (p : Side _ _). Gives token sending.Stop p (side_at e.tx k)) (l.sides.2 k) h.0, (h.1.0 ∙ l.sides.0, (λ j. h.1.1 j ∙ l.sides.1 j), (λ j other. h.1.2 j other ∙ l.sides.2 j), h.1.3 ∙ l.memory))
 gives_after d Nowhere token b c e l g = g

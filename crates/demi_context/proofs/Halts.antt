@@ -122,11 +122,11 @@ takes_after d Service token b c e l t = (
 takes_after d Journal token b c e l t = tt
 takes_after d (Receiving k) token b c e l t = λ low. let h = t low in (
   (h.0.0, h.0.1, subst (λ (p : Side _ _). Redeems (λ a b n. RxAdmits a b n h.0.1) token h.0.0 p (side_at e.rx k)) (l.sides.1 k) h.0.2),
-  (h.1.0 ∙ l.sides.0, (λ j other. h.1.1 j other ∙ l.sides.1 j), λ j. h.1.2 j ∙ l.sides.2 j),
+  (h.1.0 ∙ l.sides.0, (λ j other. h.1.1 j other ∙ l.sides.1 j), (λ j. h.1.2 j ∙ l.sides.2 j), h.1.3 ∙ l.memory),
 )
 takes_after d (Sending k) token b c e l t = λ low. let h = t low in (
   (h.0.0, h.0.1, subst (λ (p : Side _ _). Redeems (λ a b n. TxAdmits a b n h.0.1) token h.0.0 p (side_at e.tx k)) (l.sides.2 k) h.0.2),
-  (h.1.0 ∙ l.sides.0, (λ j. h.1.1 j ∙ l.sides.1 j), λ j other. h.1.2 j other ∙ l.sides.2 j),
+  (h.1.0 ∙ l.sides.0, (λ j. h.1.1 j ∙ l.sides.1 j), (λ j other. h.1.2 j other ∙ l.sides.2 j), h.1.3 ∙ l.memory),
 )
 takes_after d Nowhere token b c e l t = t
 
@@ -165,11 +165,11 @@ halts_of d Service token c m e g t = (added_of store_stop token (side_of c.servi
 halts_of d Journal token c m e g t = tt
 halts_of d (Receiving k) token c m e g t = λ low. let a = g low in let b = t low in (
   stops_of (λ o h t p. RxAdmits h t p o) receiving.Stop token a.0.0 b.0.0 b.0.1 (side_at c.rx k) (side_at m.rx k) (side_at e.rx k) a.0.1 b.0.2,
-  (b.1.0 ∙ a.1.0, (λ j other. b.1.1 j other ∙ a.1.1 j other), λ j. b.1.2 j ∙ a.1.2 j),
+  (b.1.0 ∙ a.1.0, (λ j other. b.1.1 j other ∙ a.1.1 j other), (λ j. b.1.2 j ∙ a.1.2 j), b.1.3 ∙ a.1.3),
 )
 halts_of d (Sending k) token c m e g t = λ low. let a = g low in let b = t low in (
   stops_of (λ o h t p. TxAdmits h t p o) sending.Stop token a.0.0 b.0.0 b.0.1 (side_at c.tx k) (side_at m.tx k) (side_at e.tx k) a.0.1 b.0.2,
-  (b.1.0 ∙ a.1.0, (λ j. b.1.1 j ∙ a.1.1 j), λ j other. b.1.2 j other ∙ a.1.2 j other),
+  (b.1.0 ∙ a.1.0, (λ j. b.1.1 j ∙ a.1.1 j), (λ j other. b.1.2 j other ∙ a.1.2 j other), b.1.3 ∙ a.1.3),
 )
 halts_of d Nowhere token c m e g t = g
 
@@ -184,6 +184,7 @@ link_halts d link c m e rx-low tx-low first second =
       rx = subst (Stops (λ o h t p. RxAdmits h t p o) receiving.Stop (side_at c.rx link)) (sym (b.1.1 link)) a.0;
       tx = subst (λ (p : Side _ _). Stops (λ o h t p'. TxAdmits h t p' o) sending.Stop p (side_at e.tx link)) (a.1.2 link) b.0;
       store = b.1.0 ∙ a.1.0;
+      memory = b.1.3 ∙ a.1.3;
       others = ((λ k other. b.1.1 k ∙ a.1.1 k other), λ k other. b.1.2 k other ∙ a.1.2 k);
     }
 

@@ -23,12 +23,13 @@ leaves_on link a b c first second = record {
 }
 
 pub goes_self : (n : ℕ) (c : ContextValue) → Goes n c c
-goes_self n c = record { demi = refl; number = refl; others = λ link other. leaves_self link (sight_of c link) }
+goes_self n c = record { demi = refl; number = refl; memory = refl; others = λ link other. leaves_self link (sight_of c link) }
 
 pub goes_on : (n : ℕ) (a b c : ContextValue) → Goes n a b → Goes n b c → Goes n a c
 goes_on n a b c first second = record {
   demi = second.demi ∙ first.demi;
   number = second.number ∙ first.number;
+  memory = second.memory ∙ first.memory;
   others = λ link other. leaves_on link (sight_of a link) (sight_of b link) (sight_of c link) (first.others link other) (second.others link other);
 }
 

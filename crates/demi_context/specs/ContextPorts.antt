@@ -37,7 +37,10 @@ side_at [] k = no_side
 side_at (p ∷ ps) zero = side_of p
 side_at (p ∷ ps) (suc k) = side_at ps k
 
--- the passes of two callers have the same: that of the store's port, those of the receiving ports, those of the sending ones
+-- the passes of two callers have the same: that of the memory queues, that of the store's port, those of the receiving ports, those of the sending ones
+abbrev pub SameMemory : Caller → Caller → Type 0
+SameMemory c e = side_of e.memory ≡ side_of c.memory
+
 abbrev pub SameStore : Caller → Caller → Type 0
 SameStore c e = side_of e.service ≡ side_of c.service
 
@@ -56,16 +59,19 @@ SameTxBut link c e = (k : ℕ) → link ≢ k → side_at e.tx k ≡ side_at c.t
 
 -- all of them, and all but one
 abbrev pub SameSides : Caller → Caller → Type 0
-SameSides c e = SameStore c e × SameRx c e × SameTx c e
+SameSides c e = SameStore c e × SameRx c e × SameTx c e × SameMemory c e
+
+abbrev pub SameButMemory : Caller → Caller → Type 0
+SameButMemory c e = SameStore c e × SameRx c e × SameTx c e
 
 abbrev pub SameButRx : ℕ → Caller → Caller → Type 0
-SameButRx link c e = SameStore c e × SameRxBut link c e × SameTx c e
+SameButRx link c e = SameStore c e × SameRxBut link c e × SameTx c e × SameMemory c e
 
 abbrev pub SameButTx : ℕ → Caller → Caller → Type 0
-SameButTx link c e = SameStore c e × SameRx c e × SameTxBut link c e
+SameButTx link c e = SameStore c e × SameRx c e × SameTxBut link c e × SameMemory c e
 
 abbrev pub SameButStore : Caller → Caller → Type 0
-SameButStore c e = SameRx c e × SameTx c e
+SameButStore c e = SameRx c e × SameTx c e × SameMemory c e
 
 -- at this port so many more than f says
 abbrev pub more_at : PortKind → ℕ → (PortKind → ℕ) → PortKind → ℕ

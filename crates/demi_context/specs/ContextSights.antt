@@ -10,7 +10,7 @@ use Rattle.demi_served.specs.Alone.{AsksAll}
 use Rattle.demi_served.specs.Keeps.{Worker}
 use Rattle.demi_link.specs.Sights.{LeavesBe, Sight, side_of}
 use Rattle.demi_context.specs.ContextLedgers.{LedgerValue, due_of, out_of}
-use Rattle.demi_context.specs.ContextPorts.{Caller, Whole, side_at}
+use Rattle.demi_context.specs.ContextPorts.{Caller, SameMemory, Whole, side_at}
 
 -- A worker's context: the whole that it calls, its caller, its number, what its calls came to, the scans since its scanner
 -- began, and how often it began.
@@ -44,6 +44,7 @@ ports_of c = 3 + 2 * length c.demi.rx
 pub record Goes (n : ℕ) (a b : ContextValue) : Type 0 where
   pub demi : b.demi ≡ a.demi
   pub number : b.number ≡ a.number
+  pub memory : SameMemory a.caller b.caller
   pub others : (link : ℕ) → n ≢ link → LeavesBe link (sight_of a link) (sight_of b link)
 
 -- the sum of f over the numbers below n
