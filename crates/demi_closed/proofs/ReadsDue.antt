@@ -138,7 +138,7 @@ module _ (ports : ℕ) (s : Sight) (d : DeskValue) (c : Cause) (fits : Fits port
       let within : n ≤ length asked = omega arith in
       ap (take n) all ∙ take-append-le n asked (refusal d.talk.refused ++ asks_are.0) within ∙ take-map Request_of n d.talk.handed
 
-  first_replies : (n : ℕ) → n ≤ length d.talk.handed → n ≤ length replies → told ≡ true → take n replies ≡ (serial old limit (map Request_of (take n d.talk.handed))).replies
+  pub first_replies : (n : ℕ) → n ≤ length d.talk.handed → n ≤ length replies → told ≡ true → take n replies ≡ (serial old limit (map Request_of (take n d.talk.handed))).replies
   first_replies n within le is =
       ap (take n) (as_store is) ∙ take-take n (length replies) (serial old limit asks).replies le ∙ take_serial 0 old limit n asks
       ∙ ap (λ (l : List Asked). (serial old limit l).replies) (first_asks n within)

@@ -44,3 +44,14 @@ pub record OnlyDueReads {S : Type 0} (reads : S → ℕ → Option (List ℕ) �
   pub reads_are : EachRead reads before made after
   pub gave : bytes_given made ≡ run.read
   pub due : (n : ℕ) → n < length made → IsDueRead told limit old (take n made) run.written
+
+-- All that was read whole was answered: the bytes that were read are whole requests and at most a part of one more, and what was written is
+-- the whole replies to all of these requests, one for each; where the log tells its bytes they are those of the one-thread store on the old
+-- records.
+pub record AnsweredInFull (told : Bool) (limit : ℕ) (old : List Record) (run : LinkRun) : Type 0 where
+  pub requests : List Request
+  pub parses : Parses requests Open false run.read
+  pub replies : List Reply
+  pub each : length replies ≡ length requests
+  pub written : run.written ≡ flat_map reply.spelling replies
+  pub as_store : told ≡ true → replies ≡ (serial old limit (map Request_of requests)).replies
