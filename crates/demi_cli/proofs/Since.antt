@@ -155,6 +155,7 @@ link_since base before after a b l c service rx tx rs le s = record {
   base_is = s.base_is;
   served = s.served;
   to_end = s.to_end;
+  on_read_fault = s.on_read_fault;
   why = cause_since c before.0.read_faults after.0.read_faults before.1.write_faults after.1.write_faults a b l le s.why;
 }
 

@@ -25,7 +25,7 @@ use Rattle.demi_server.specs.Ending.{LogCame, OneEnded}
 use Rattle.demi_server.specs.Gathering.{AllDevices}
 use Rattle.demi_closed.specs.LinkClosed.{LinkMoved, LinkResult, WasServed, ports_of}
 use Rattle.demi_closed.specs.OnlyLink.{OneServed}
-use Rattle.demi_closed.specs.Reading.{OnlyDueReads}
+use Rattle.demi_closed.specs.Reading.{AnsweredInFull, OnlyDueReads}
 use Rattle.demi_server.specs.Session.{HasCause, RxEndValue, TxEndValue}
 use Rattle.demi_server.specs.declared.parts.Parts.{Parts}
 use Rattle.demi_server.proofs.Causes.{admitted_on, read_rose, write_rose}
@@ -101,8 +101,9 @@ module _ {I O D : Type 0} (taken : I → ℕ) (left : I → Option (List ℕ)) (
       → LogCame (bytes v.store.engine.core.log.disk) (bytes w.store.engine.core.log.disk) p.store.base (says service.history) service.trail records
       → ((at : ℕ) → (standing_at_end p.store.base (says service.history) service.trail).fault ≡ Some at → Rose (faults v.store.engine.core.log.disk) (faults w.store.engine.core.log.disk))
       → OnlyDueReads reads p.store.base.told p.store.base.limit p.store.base.records t.old.first.engine.source t.new.first.engine.source l
+      → (t.end.cause ≡ cause.ReadFault → AnsweredInFull p.store.base.told p.store.base.limit p.store.base.records l)
       → OneEnded taken left read_faults reads written write_faults bytes faults p q v w ended service rx_ends tx_ends
-  one_ended v bytes faults l talk records moved result served why log struck due = record {
+  one_ended v bytes faults l talk records moved result served why log struck due on_read_fault = record {
     one = record { link = ends_of t.old; was = t.was; now = ends_of t.new; is = t.now; rx_end = t.ports.rx_end; rx_is = t.rx_is; tx_end = t.ports.tx_end; tx_is = t.tx_is };
     end = t.end;
     only = t.only;
@@ -121,6 +122,7 @@ module _ {I O D : Type 0} (taken : I → ℕ) (left : I → Option (List ℕ)) (
       served = subst (λ (b : StoreBasis). OneServed t.end.cause b service.history service.trail l (ports_of t.new.first.engine t.new.second.engine) records) t.base served;
       to_end = result.to_end;
       why = why;
+      on_read_fault = on_read_fault;
     };
     log = log;
     struck = struck;

@@ -22,7 +22,7 @@ use Rattle.demi_closed.specs.LinkClosed.{LinkMoved}
 use Rattle.demi_server.specs.Logs.{HadRecords, LogGrew, log_at}
 use Rattle.demi_closed.specs.OnlyLink.{OneServed}
 use Rattle.demi_server.specs.Outcomes.{told_of}
-use Rattle.demi_closed.specs.Reading.{OnlyDueReads}
+use Rattle.demi_closed.specs.Reading.{AnsweredInFull, OnlyDueReads}
 use Rattle.demi_closed.specs.TextEnds.{ReadToEnd}
 use Rattle.demi_server.specs.declared.outcome.Outcome.{Outcome}
 
@@ -42,7 +42,7 @@ HasCause other read0 read1 write0 write1 log0 log1 = Unit {0}
 
 -- What the one link of a session came to: its source and sink before and after it; why it ended; what was read of it and written to it;
 -- what its ports were asked and what came of that, which is what their ends say; the records that the log then has; and by all of that,
--- over a store on this base, it was served.
+-- over a store on this base, it was served. Where a read of it failed, all that was read whole was answered.
 pub record LinkServed {I O : Type 0} (taken : I → ℕ) (left : I → Option (List ℕ)) (read_faults : I → ℕ) (written : O → Option (List ℕ)) (write_faults : O → ℕ)
     (base : StoreBasis) (before after : I × O) (log_faults0 log_faults1 : ℕ) (c : Cause) (service : StoreEnd) (rx_end : RxEndValue) (tx_end : TxEndValue) (records : List Record) : Type 0 where
   pub known : IsKnown c
@@ -57,6 +57,7 @@ pub record LinkServed {I O : Type 0} (taken : I → ℕ) (left : I → Option (L
   pub served : OneServed c base service.history service.trail run ports records
   pub to_end : IsDone c → ReadToEnd c run
   pub why : HasCause c (read_faults before.0) (read_faults after.0) (write_faults before.1) (write_faults after.1) log_faults0 log_faults1
+  pub on_read_fault : c ≡ cause.ReadFault → AnsweredInFull base.told base.limit base.records run
 
 -- the one link of a session, with its ports' ends
 pub record OnlyOne {I O : Type 0} (before after : List (I × O)) (rx_ends : List RxEndValue) (tx_ends : List TxEndValue) : Type 0 where

@@ -8,9 +8,10 @@ use Rattle.demi_served.specs.Accounts.{LeftInLog, standing_at_end}
 use Rattle.demi_served.specs.Talks.{Talk}
 use Rattle.demi_link.specs.Fitting.{Fits, HeardOf}
 use Rattle.demi_link.specs.Heard.{IsLogFault}
+use Rattle.demi_link.specs.declared.phase.Cause.TheVariants as cause
 use Rattle.demi_link.specs.declared.phase.Phase.TheVariants.{Over}
 use Rattle.demi_closed.specs.LinkClosed.{ports_of}
-use Rattle.demi_closed.specs.Reading.{OnlyDueReads}
+use Rattle.demi_closed.specs.Reading.{AnsweredInFull, OnlyDueReads}
 use Rattle.demi_closed.proofs.LinkCloses as link
 use Rattle.demi_closed.proofs.NeverBegan.{settle}
 use Rattle.demi_closed.proofs.NeverRead.{never_read}
@@ -58,10 +59,16 @@ returns g c = λ d p q v w first last after ended service rx_ends tx_ends e.
     λ told. subst (λ (k : Talk). k.replies ≡ take (length k.replies) (serial b0.records b0.limit k.asks).replies) one.1 (one.0.replies told) in
     let due : OnlyDueReads reads b0.told b0.limit b0.records t.old.first.engine.source t.new.first.engine.source closed.0 =
     settle t.there s t.desk t.end.cause
-    (λ f. c.a_served_link_made_only_due_reads.ensures t.there s t.desk t.end.cause t.old.first.engine t.new.first.engine t.old.second.engine t.new.second.engine closed.0 closed.1 b0.told b0.limit b0.records f t.served.known t.ports closed.3 as_store)
+    (λ f. c.a_served_link_made_only_due_reads.ensures.due t.there s t.desk t.end.cause t.old.first.engine t.new.first.engine t.old.second.engine t.new.second.engine closed.0 closed.1 b0.told b0.limit b0.records f t.served.known t.ports closed.3 as_store)
     (λ n. never_read taken left rf reads written wf t.there s t.desk t.end.cause n t.served t.old.first.engine t.new.first.engine t.old.second.engine t.new.second.engine t.ports closed.0 closed.1 closed.3 b0.told b0.limit b0.records)
+    t.served in
+    let answered : t.end.cause ≡ cause.ReadFault → AnsweredInFull b0.told b0.limit b0.records closed.0 =
+    λ failed. settle t.there s t.desk t.end.cause
+    (λ f. c.a_served_link_made_only_due_reads.ensures.failed t.there s t.desk t.end.cause t.old.first.engine t.new.first.engine t.old.second.engine t.new.second.engine closed.0 closed.1 b0.told b0.limit b0.records f t.served.known t.ports closed.3 as_store failed)
+    (λ n. absurd (let no : cause.ReadFault ≡ cause.NoMemory = sym failed ∙ n.cause in cc))
     t.served in
     one_ended taken left rf reads written wf d p q w after ended service rx_ends tx_ends t v bytes faults closed.0 closed.1 log.0 closed.2 closed.3 one.0
     (why_of taken left rf reads written wf d p q w after ended service rx_ends tx_ends t (faults a.core.log.disk) (faults b.core.log.disk) t.end.cause t.served popped failed)
     log.2 struck
     (subst (λ (z : StoreBasis). OnlyDueReads reads z.told z.limit z.records t.old.first.engine.source t.new.first.engine.source closed.0) t.base due)
+    (subst (λ (z : StoreBasis). t.end.cause ≡ cause.ReadFault → AnsweredInFull z.told z.limit z.records closed.0) t.base answered)
