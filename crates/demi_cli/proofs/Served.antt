@@ -71,6 +71,7 @@ module _ {I O D : Type 0} (taken : I → ℕ) (left : I → Option (List ℕ)) (
     base_is = s.base_is;
     served = s.served;
     to_end = s.to_end;
+    on_read_fault = s.on_read_fault;
     why = s.why;
   }
 

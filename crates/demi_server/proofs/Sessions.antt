@@ -129,6 +129,7 @@ ran_one taken left read_faults reads written write_faults bytes held faults limi
         base_is = o.served.base_is;
         served = o.served.served;
         to_end = o.served.to_end;
+        on_read_fault = o.served.on_read_fault;
         why = earlier_cause o.why (read_faults o.one.link.0) (read_faults o.one.now.0) (write_faults o.one.link.1) (write_faults o.one.now.1) (faults disk) (faults kept) (faults log) le o.served.why;
       });
   grew = both.0;
