@@ -2,6 +2,7 @@ mod ContextAsks
 mod ContextGoing
 pub mod ContextKinds
 pub mod ContextOwing
+pub mod ContextSend
 pub mod ContextSides
 mod ContextSteps
 mod ContextStops
