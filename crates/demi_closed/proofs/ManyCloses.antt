@@ -1,5 +1,5 @@
 -- What a session of any number of links and workers shows once its store's port is closed.
-use Rattle.std.proofs.Common.{◌≡◌, ◌⊎◌, ℕ, zero, suc, ◌+◌, ◌<◌, Bool, List, [], ◌∷◌, Some, length, map, refl, arith, ◌∙◌, ap, sym, subst, append-nil}
+use Rattle.std.proofs.Common.{◌≡◌, ◌⊎◌, ℕ, zero, suc, ◌+◌, ◌<◌, Bool, List, [], ◌∷◌, Some, length, map, refl, arith, ◌∙◌, ap, sym, subst, append-nil, inl, inr}
 use Rattle.std.specs.Prelude.{flat_map, slice_get}
 use Rattle.std.specs.List.{AllByRecursion, AllZip}
 use mathlib.Core.Option.{some}
@@ -41,6 +41,9 @@ kept_of k = k.desk.talk.kept
 abbrev pub pass_of : WorkerEnd → StorePass
 pass_of w = w.pass
 
+zero_more : (n : ℕ) → 0 + n ≡ n
+zero_more n = omega arith
+
 -- a worker that did nothing more, and one that stopped the store
 same_now : (w : WorkerEnd) → side_of w.pass ≡ w.store → worker_then w ≡ worker_now w
 same_now w e = ap (λ (s : Side StoreAsk StoreTold). record { submitted = s.submitted; known = s.known; draws = w.draws }) (sym e)
@@ -71,10 +74,10 @@ module _ (handed : (v : Worker) (known : Trail StoreAsk StoreTold) → WorkerKee
 
   module _ (b : StoreBasis) (there : ℕ) (workers : List WorkerEnd) (links : List LinkEnd) (are_workers : Placed (IsWorkerOf b links) 0 workers) (are_served : Placed (IsServedBy there workers) 0 links) where
     worker_at : (n : ℕ) (w : WorkerEnd) → slice_get workers n ≡ Some w → IsWorkerOf b links n w
-    worker_at n w at = placed_at (IsWorkerOf b links) 0 workers n w are_workers at
+    worker_at n w at = subst (λ (m : ℕ). IsWorkerOf b links m w) (zero_more n) (placed_at (IsWorkerOf b links) 0 workers n w are_workers at)
 
     served_at : (n : ℕ) (k : LinkEnd) → slice_get links n ≡ Some k → IsServedBy there workers n k
-    served_at n k at = placed_at (IsServedBy there workers) 0 links n k are_served at
+    served_at n k at = subst (λ (m : ℕ). IsServedBy there workers m k) (zero_more n) (placed_at (IsServedBy there workers) 0 links n k are_served at)
 
     keeps_it : (n : ℕ) (k : LinkEnd) → IsServedBy there workers n k → Keeps k.had k.desk
     keeps_it n k s = keeps_of there k.had k.desk k.cause s.served
