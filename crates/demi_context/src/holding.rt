@@ -7,8 +7,9 @@ use demi_store::{Back, StoreLaw, StoreOut};
 use demi_streamq::{RxOut, TxOut};
 use std::sync::Wait;
 
-// Holds this, which may be something that cannot be dropped, and parks without end.
-pub(crate) fn hold<R: Wait, T>(
+/// Holds this, which may be something that cannot be dropped, and parks without end: for what may come by the contracts of calls, and
+/// never comes. It does not return.
+pub fn hold<R: Wait, T>(
     rt: &R,
     demi: &Demi<StoreLaw>,
     caller: &mut Caller<StoreLaw>,
