@@ -1,5 +1,5 @@
 -- What a parse has of each argument of a plain description.
-use Rattle.std.proofs.Common.{◌≡◌, ◌∙◌, ◌<◌, ◌≤◌, ◌&&◌, ◌||◌, ap, arith, codes, ℕ, Bool, true, false, true≢false, not, zero, suc, List, [], ◌∷◌, length, map, is_some, Option, Some, None, option_map, refl, sym, subst, inl, inr}
+use Rattle.std.proofs.Common.{◌≡◌, ◌∙◌, ◌<◌, ◌&&◌, ◌||◌, ap, arith, codes, ℕ, Bool, true, false, true≢false, not, zero, suc, List, [], ◌∷◌, length, map, is_some, Option, Some, None, option_map, refl, sym, subst, inl, inr}
 use Rattle.std.specs.Prelude.{pos, slice_get}
 use Rattle.std.specs.List.{list_all, list_any, slice_index_or}
 use Rattle.std.specs.Str.{bytes_eq}
@@ -24,7 +24,6 @@ use Rattle.clap.specs.declared.builder.value_parser.ValueParser.TheVariants as v
 use Rattle.clap.specs.declared.parser.matches.ArgMatches.{ArgMatches}
 use Rattle.clap.specs.declared.parser.matches.Found.{Found}
 use Rattle.clap.specs.declared.parser.matches.MatchedArg.{MatchedArg}
-use Rattle.demi_words.specs.Descriptions as describe
 use Rattle.demi_words.specs.Numbers.{IsNumberIn}
 use Rattle.demi_words.proofs.Given.{given_reads}
 use Rattle.demi_words.proofs.Numbers.{signed_number, unsigned_number}

@@ -1,7 +1,7 @@
 -- What a parse of each command has of its numbers.
-use Rattle.std.proofs.Common.{◌≡◌, ◌≤◌, ◌^◌, ◌-◌, arith, codes, ℕ, true, false, List, Some, is_some, refl}
+use Rattle.std.proofs.Common.{◌≡◌, ◌≤◌, ◌^◌, ◌-◌, arith, codes, ℕ, true, List, Some, refl}
 use Rattle.std.specs.Prelude.{pos}
-use Rattle.clap.specs.Words.{App, IsParsedFrom, Row, Rule, Text, app_of, found_of, one_of, rows_of}
+use Rattle.clap.specs.Words.{IsParsedFrom, Row, Text, app_of, found_of, one_of, rows_of}
 use Rattle.clap.specs.declared.builder.command.Command.{Command}
 use Rattle.clap.specs.declared.builder.value_parser.ValueParser.TheVariants as vp
 use Rattle.clap.specs.declared.parser.matches.ArgMatches.{ArgMatches}
@@ -15,7 +15,7 @@ use Rattle.demi_words.proofs.Numbers.{number_maybe, number_there}
 abbrev pub AreIn : ℕ → ℕ → Text → List Row → Type 0
 AreIn low high name rows = (t : Text) → one_of name rows ≡ Some t → IsNumberIn low high t
 
-limit_at : IsAt describe.pipe 0 (describe.number_option (codes "limit") 1 1000000 false)
+limit_at : IsAt describe.pipe 0 describe.limit
 limit_at = record { inside = omega arith; is = λ r. refl; alone = refl; own = refl }
 
 pub record PipeHas (rows : List Row) : Type 0 where
@@ -27,13 +27,13 @@ pipe_has c m same p =
     let limit = signed describe.pipe c m same refl p 0 _ limit_at 1 1000000 refl in
     record { limit = limit; in_range = number_maybe 1 1000000 default_limit _ (omega arith) (omega arith) limit }
 
-serve_links_at : IsAt describe.serve 0 (describe.number_option (codes "links") 1 16 true)
+serve_links_at : IsAt describe.serve 0 describe.links
 serve_links_at = record { inside = omega arith; is = λ r. refl; alone = refl; own = refl }
 
-serve_workers_at : IsAt describe.serve 1 (describe.number_option (codes "workers") 1 4 true)
+serve_workers_at : IsAt describe.serve 1 describe.workers
 serve_workers_at = record { inside = omega arith; is = λ r. refl; alone = refl; own = refl }
 
-serve_limit_at : IsAt describe.serve 2 (describe.number_option (codes "limit") 1 1000000 false)
+serve_limit_at : IsAt describe.serve 2 describe.limit
 serve_limit_at = record { inside = omega arith; is = λ r. refl; alone = refl; own = refl }
 
 pub record ServeHas (rows : List Row) : Type 0 where
@@ -60,10 +60,10 @@ serve_has c m same p =
       limit_in_range = number_maybe 1 1000000 default_limit _ (omega arith) (omega arith) limit;
     }
 
-bench_links_at : IsAt describe.bench 0 (describe.number_option (codes "links") 1 16 true)
+bench_links_at : IsAt describe.bench 0 describe.links
 bench_links_at = record { inside = omega arith; is = λ r. refl; alone = refl; own = refl }
 
-bench_workers_at : IsAt describe.bench 1 (describe.number_option (codes "workers") 1 4 true)
+bench_workers_at : IsAt describe.bench 1 describe.workers
 bench_workers_at = record { inside = omega arith; is = λ r. refl; alone = refl; own = refl }
 
 bench_count_at : IsAt describe.bench 2 (describe.number_option (codes "count") 0 1000000 true)

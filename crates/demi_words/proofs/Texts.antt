@@ -1,5 +1,5 @@
 -- Texts that a getter of `clap` reads.
-use Rattle.std.proofs.Common.{◌≡◌, ℕ, List, [], option_map, Option, Some, None, refl}
+use Rattle.std.proofs.Common.{◌≡◌, [], option_map, Option, Some, None, refl}
 use Rattle.std.specs.Prelude.{unwrap_or}
 use Rattle.std.specs.Borrow.{Bor}
 use Rattle.clap.specs.Words.{Text}

@@ -1,4 +1,4 @@
 pub mod Descriptions
 pub mod Numbers
 pub mod Commands
-pub mod Told
+pub mod Plain

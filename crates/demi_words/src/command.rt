@@ -33,9 +33,13 @@ pub enum Command<'a> {
         keep: Option<&'a str>,
     },
     /// `check NAME`: audit the session that was kept under this name.
-    Check { name: &'a str },
+    Check {
+        name: &'a str,
+    },
     /// `log NAME`: say the records of the log of this name.
-    Log { name: &'a str },
+    Log {
+        name: &'a str,
+    },
 }
 
 /// Why words were not read.

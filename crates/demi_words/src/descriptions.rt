@@ -1,5 +1,5 @@
 // The five commands, as `clap` is told of them.
-ghost use Rattle.std.specs.Prelude.{◌≡◌, false, IfOk};
+ghost use Rattle.std.specs.Prelude.{◌≡◌, false, true, IfOk};
 ghost use Rattle.clap.specs.Words.{app_of, rule_of};
 ghost use Rattle.demi_words.specs.Descriptions as describe;
 
@@ -8,19 +8,26 @@ use clap::{Arg, ArgAction, Command};
 use std::alloc::{AllocError, Global};
 
 // An option `--name N`, where N is a number from `low` to `high`.
-fn number<'a>(alloc: Global, name: &'a str, low: u32, high: u32, required: bool) -> Arg<'a>
-    ensures rule { rule_of result ≡ describe.number_option name.entry.now low high required }
+fn number<'a>(alloc: Global, name: &'a str, low: u32, high: u32) -> Arg<'a>
+    ensures rule { rule_of result ≡ describe.number_option name.entry.now low high false }
     ensures local { result.global ≡ false }
 {
     Arg::new(alloc, name)
         .long(name)
         .action(ArgAction::Set)
         .value_parser(ValueParser::signed(low as i64, high as i64))
-        .required(required)
 }
 
-// An option `--name N` that has to be there, where N is any number of 64 bits.
-fn any_number<'a>(alloc: Global, name: &'a str) -> Arg<'a>
+// The same, where it has to be given.
+fn required_number<'a>(alloc: Global, name: &'a str, low: u32, high: u32) -> Arg<'a>
+    ensures rule { rule_of result ≡ describe.number_option name.entry.now low high true }
+    ensures local { result.global ≡ false }
+{
+    number(alloc, name, low, high).required(true)
+}
+
+// An option `--name N` that has to be given, where N is any number of 64 bits.
+fn long_number<'a>(alloc: Global, name: &'a str) -> Arg<'a>
     ensures rule { rule_of result ≡ describe.long_option name.entry.now }
     ensures local { result.global ≡ false }
 {
@@ -47,6 +54,28 @@ fn word<'a>(alloc: Global, name: &'a str) -> Arg<'a>
     Arg::new(alloc, name).action(ArgAction::Set).required(true)
 }
 
+fn links<'a>(alloc: Global) -> Arg<'a>
+    ensures rule { rule_of result ≡ describe.links }
+    ensures local { result.global ≡ false }
+{
+    required_number(alloc, "links", 1, 16)
+}
+
+fn workers<'a>(alloc: Global) -> Arg<'a>
+    ensures rule { rule_of result ≡ describe.workers }
+    ensures local { result.global ≡ false }
+{
+    required_number(alloc, "workers", 1, 4)
+}
+
+// How many records a log may have.
+fn limit<'a>(alloc: Global) -> Arg<'a>
+    ensures rule { rule_of result ≡ describe.limit }
+    ensures local { result.global ≡ false }
+{
+    number(alloc, "limit", 1, 1_000_000)
+}
+
 // A command with no arguments yet, which reads the words after its name.
 fn bare<'a>(alloc: Global, name: &'a str) -> Command<'a>
     ensures { app_of result ≡ describe.bare name.entry.now }
@@ -61,7 +90,7 @@ pub(crate) fn pipe<'a>(alloc: Global) -> Result<Command<'a>, AllocError>
     ensures { IfOk result (λ c. app_of c ≡ describe.pipe) }
 {
     bare(alloc, "pipe")
-        .arg(number(alloc, "limit", 1, 1_000_000, false))?
+        .arg(limit(alloc))?
         .arg(word(alloc, "log"))
 }
 
@@ -69,9 +98,9 @@ pub(crate) fn serve<'a>(alloc: Global) -> Result<Command<'a>, AllocError>
     ensures { IfOk result (λ c. app_of c ≡ describe.serve) }
 {
     bare(alloc, "serve")
-        .arg(number(alloc, "links", 1, 16, true))?
-        .arg(number(alloc, "workers", 1, 4, true))?
-        .arg(number(alloc, "limit", 1, 1_000_000, false))?
+        .arg(links(alloc))?
+        .arg(workers(alloc))?
+        .arg(limit(alloc))?
         .arg(word(alloc, "address"))?
         .arg(word(alloc, "log"))
 }
@@ -80,10 +109,10 @@ pub(crate) fn bench<'a>(alloc: Global) -> Result<Command<'a>, AllocError>
     ensures { IfOk result (λ c. app_of c ≡ describe.bench) }
 {
     bare(alloc, "bench")
-        .arg(number(alloc, "links", 1, 16, true))?
-        .arg(number(alloc, "workers", 1, 4, true))?
-        .arg(number(alloc, "count", 0, 1_000_000, true))?
-        .arg(any_number(alloc, "seed"))?
+        .arg(links(alloc))?
+        .arg(workers(alloc))?
+        .arg(required_number(alloc, "count", 0, 1_000_000))?
+        .arg(long_number(alloc, "seed"))?
         .arg(text(alloc, "keep"))
 }
 

@@ -15,4 +15,4 @@ mod reading;
 mod tests;
 
 pub use command::{Command, WordsRefusal};
-pub use reading::{DEFAULT_LIMIT, read_words};
+pub use reading::read_words;

@@ -10,7 +10,10 @@ use clap::error::ErrorKind;
 use clap::{ArgMatches, Command};
 
 // What is found in the words, where the command takes them.
-pub(crate) fn find<'a>(command: Command<'a>, rest: &'a [String]) -> Result<ArgMatches<'a>, WordsRefusal>
+pub(crate) fn find<'a>(
+    command: Command<'a>,
+    rest: &'a [String],
+) -> Result<ArgMatches<'a>, WordsRefusal>
     requires { is_simple_and_free (app_of command) ≡ true }
     ensures taken { IfOk result (λ m. is_empty (fault_of (app_of command.entry) (map string_bytes rest.entry.now)) ≡ true) }
     ensures found { IfOk result (λ m. rows_of (found_of m) ≡ matches_of (app_of command.entry) (map string_bytes rest.entry.now)) }

@@ -1,21 +1,20 @@
 // From words to commands.
-ghost use Rattle.std.specs.Prelude.{◌≡◌, codes, map, string_bytes, IfOk, IsErrOf, None, Some};
-ghost use Rattle.demi_words.specs.Commands.{IsInRange, bench_by, check_by, command_of, log_by, pipe_by, serve_by, taken};
-ghost use Rattle.demi_words.specs.Descriptions as describe;
-ghost use Rattle.demi_words.specs.Told.{told};
+ghost use Rattle.std.specs.Prelude.{◌≡◌, false, map, string_bytes, IfOk, IsErrOf, Err, None, Some};
+ghost use Rattle.demi_words.specs.Commands.{IsInRange, bench_from, check_from, command_of, is_named, log_from, pipe_from, serve_from};
+ghost use Rattle.demi_words.specs.Plain.{plain_of};
 
 use crate::command::{Command, WordsRefusal};
 use crate::descriptions;
-use crate::matching::{long_number, find, number_or, text_at, word_at};
+use crate::matching::{find, long_number, number_or, text_at, word_at};
 use std::alloc::Global;
 
-/// How many records a log may have where `--limit` is not given.
-pub const DEFAULT_LIMIT: u32 = 1_000_000;
+// How many records a log may have where `--limit` is not given.
+const DEFAULT_LIMIT: u32 = 1_000_000;
 
 fn read_pipe<'a>(alloc: Global, rest: &'a [String]) -> Result<Command<'a>, WordsRefusal>
-    ensures read { IfOk result (λ c. taken describe.pipe pipe_by (map string_bytes rest.entry.now) ≡ Some (told c)) }
-    ensures in_range { IfOk result (λ c. IsInRange (told c)) }
-    ensures refused { IsErrOf result WordsRefusal.Usage → taken describe.pipe pipe_by (map string_bytes rest.entry.now) ≡ None }
+    ensures read { IfOk result (λ c. pipe_from (map string_bytes rest.entry.now) ≡ Some (plain_of c)) }
+    ensures in_range { IfOk result (λ c. IsInRange (plain_of c)) }
+    ensures refused { IsErrOf result WordsRefusal.Usage → pipe_from (map string_bytes rest.entry.now) ≡ None }
 {
     let matches = find(descriptions::pipe(alloc)?, rest)?;
     Ok(Command::Pipe {
@@ -25,9 +24,9 @@ fn read_pipe<'a>(alloc: Global, rest: &'a [String]) -> Result<Command<'a>, Words
 }
 
 fn read_serve<'a>(alloc: Global, rest: &'a [String]) -> Result<Command<'a>, WordsRefusal>
-    ensures read { IfOk result (λ c. taken describe.serve serve_by (map string_bytes rest.entry.now) ≡ Some (told c)) }
-    ensures in_range { IfOk result (λ c. IsInRange (told c)) }
-    ensures refused { IsErrOf result WordsRefusal.Usage → taken describe.serve serve_by (map string_bytes rest.entry.now) ≡ None }
+    ensures read { IfOk result (λ c. serve_from (map string_bytes rest.entry.now) ≡ Some (plain_of c)) }
+    ensures in_range { IfOk result (λ c. IsInRange (plain_of c)) }
+    ensures refused { IsErrOf result WordsRefusal.Usage → serve_from (map string_bytes rest.entry.now) ≡ None }
 {
     let matches = find(descriptions::serve(alloc)?, rest)?;
     Ok(Command::Serve {
@@ -40,9 +39,9 @@ fn read_serve<'a>(alloc: Global, rest: &'a [String]) -> Result<Command<'a>, Word
 }
 
 fn read_bench<'a>(alloc: Global, rest: &'a [String]) -> Result<Command<'a>, WordsRefusal>
-    ensures read { IfOk result (λ c. taken describe.bench bench_by (map string_bytes rest.entry.now) ≡ Some (told c)) }
-    ensures in_range { IfOk result (λ c. IsInRange (told c)) }
-    ensures refused { IsErrOf result WordsRefusal.Usage → taken describe.bench bench_by (map string_bytes rest.entry.now) ≡ None }
+    ensures read { IfOk result (λ c. bench_from (map string_bytes rest.entry.now) ≡ Some (plain_of c)) }
+    ensures in_range { IfOk result (λ c. IsInRange (plain_of c)) }
+    ensures refused { IsErrOf result WordsRefusal.Usage → bench_from (map string_bytes rest.entry.now) ≡ None }
 {
     let matches = find(descriptions::bench(alloc)?, rest)?;
     Ok(Command::Bench {
@@ -55,9 +54,9 @@ fn read_bench<'a>(alloc: Global, rest: &'a [String]) -> Result<Command<'a>, Word
 }
 
 fn read_check<'a>(alloc: Global, rest: &'a [String]) -> Result<Command<'a>, WordsRefusal>
-    ensures read { IfOk result (λ c. taken (describe.of_one_name (codes "check")) check_by (map string_bytes rest.entry.now) ≡ Some (told c)) }
-    ensures in_range { IfOk result (λ c. IsInRange (told c)) }
-    ensures refused { IsErrOf result WordsRefusal.Usage → taken (describe.of_one_name (codes "check")) check_by (map string_bytes rest.entry.now) ≡ None }
+    ensures read { IfOk result (λ c. check_from (map string_bytes rest.entry.now) ≡ Some (plain_of c)) }
+    ensures in_range { IfOk result (λ c. IsInRange (plain_of c)) }
+    ensures refused { IsErrOf result WordsRefusal.Usage → check_from (map string_bytes rest.entry.now) ≡ None }
 {
     let matches = find(descriptions::of_one_name(alloc, "check")?, rest)?;
     Ok(Command::Check {
@@ -66,9 +65,9 @@ fn read_check<'a>(alloc: Global, rest: &'a [String]) -> Result<Command<'a>, Word
 }
 
 fn read_log<'a>(alloc: Global, rest: &'a [String]) -> Result<Command<'a>, WordsRefusal>
-    ensures read { IfOk result (λ c. taken (describe.of_one_name (codes "log")) log_by (map string_bytes rest.entry.now) ≡ Some (told c)) }
-    ensures in_range { IfOk result (λ c. IsInRange (told c)) }
-    ensures refused { IsErrOf result WordsRefusal.Usage → taken (describe.of_one_name (codes "log")) log_by (map string_bytes rest.entry.now) ≡ None }
+    ensures read { IfOk result (λ c. log_from (map string_bytes rest.entry.now) ≡ Some (plain_of c)) }
+    ensures in_range { IfOk result (λ c. IsInRange (plain_of c)) }
+    ensures refused { IsErrOf result WordsRefusal.Usage → log_from (map string_bytes rest.entry.now) ≡ None }
 {
     let matches = find(descriptions::of_one_name(alloc, "log")?, rest)?;
     Ok(Command::Log {
@@ -77,10 +76,22 @@ fn read_log<'a>(alloc: Global, rest: &'a [String]) -> Result<Command<'a>, WordsR
 }
 
 /// The command that the words after the program's name ask for.
+///
+/// The first word is the command's name. The rest is read as a plain command of `clap`: an option is `--name VALUE` or `--name=VALUE`, stands
+/// anywhere and at most once; `--` makes words of all that follows; a number is decimal digits, after a plus sign or zeros or none; a word may
+/// be empty, or `-`. There is no option for help or a version.
+///
+/// | refusal | comes |
+/// |---|---|
+/// | `Usage` | only where the words are no command, and always where the first is no command's name or is missing |
+/// | `NoMemory` | memory was refused |
+///
+/// Not promised: that memory is found.
 pub fn read_words<'a>(alloc: Global, words: &'a [String]) -> Result<Command<'a>, WordsRefusal>
-    ensures read { IfOk result (λ c. command_of (map string_bytes words.entry.now) ≡ Some (told c)) }
-    ensures in_range { IfOk result (λ c. IsInRange (told c)) }
+    ensures read { IfOk result (λ c. command_of (map string_bytes words.entry.now) ≡ Some (plain_of c)) }
+    ensures in_range { IfOk result (λ c. IsInRange (plain_of c)) }
     ensures usage { IsErrOf result WordsRefusal.Usage → command_of (map string_bytes words.entry.now) ≡ None }
+    ensures unnamed { is_named (map string_bytes words.entry.now) ≡ false → result ≡ Err WordsRefusal.Usage }
 {
     let Some((name, rest)) = words.split_first() else {
         return Err(WordsRefusal::Usage);
