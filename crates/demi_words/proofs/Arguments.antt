@@ -1,5 +1,6 @@
 -- What a parse has of each argument of a plain description.
-use Rattle.std.proofs.Common.{◌≡◌, ◌∙◌, ◌<◌, ◌&&◌, ◌||◌, ap, arith, codes, ℕ, Bool, true, false, true≢false, not, zero, suc, List, [], ◌∷◌, length, map, is_some, Option, Some, None, option_map, refl, sym, subst, inl, inr}
+use Rattle.std.proofs.Common.{◌≡◌, ◌∙◌, ◌<◌, ◌&&◌, ◌||◌, ap, arith, codes, ℕ, Bool, true, false, true≢false, not, zero, suc}
+use Rattle.std.proofs.Common.{List, [], ◌∷◌, length, map, is_some, Option, Some, None, option_map, refl, sym, subst, inl, inr}
 use Rattle.std.specs.Prelude.{pos, slice_get}
 use Rattle.std.specs.List.{list_all, list_any, slice_index_or}
 use Rattle.std.specs.Str.{bytes_eq}

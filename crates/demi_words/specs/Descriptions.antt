@@ -43,7 +43,8 @@ pipe = with_rule (with_rule (bare (codes "pipe")) limit) (word (codes "log"))
 
 -- `serve --links N --workers N [--limit N] ADDRESS LOG`
 abbrev pub serve : App
-serve = with_rule (with_rule (with_rule (with_rule (with_rule (bare (codes "serve")) links) workers) limit) (word (codes "address"))) (word (codes "log"))
+serve = with_rule (with_rule (with_rule (with_rule (with_rule (bare (codes "serve")) links) workers) limit)
+    (word (codes "address"))) (word (codes "log"))
 
 -- `bench --links N --workers N --count N --seed N [--keep NAME]`
 abbrev pub bench : App

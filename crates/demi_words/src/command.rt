@@ -7,6 +7,7 @@ pub enum Command<'a> {
     Pipe {
         /// How many records the log may have, from 1 to 1,000,000.
         limit: u32,
+        /// The name of the log.
         log: &'a str,
     },
     /// `serve --links N --workers N [--limit N] ADDRESS LOG`: answer the requests of so many links at an address.
@@ -17,7 +18,9 @@ pub enum Command<'a> {
         workers: u32,
         /// How many records the log may have, from 1 to 1,000,000.
         limit: u32,
+        /// Where to listen.
         address: &'a str,
+        /// The name of the log.
         log: &'a str,
     },
     /// `bench --links N --workers N --count N --seed N [--keep NAME]`: answer random requests of so many links in memory.
@@ -28,16 +31,19 @@ pub enum Command<'a> {
         workers: u32,
         /// How many requests, of all links together, from 0 to 1,000,000.
         count: u32,
+        /// The number that the requests are drawn from.
         seed: u64,
         /// Where the whole session is to be kept, if anywhere.
         keep: Option<&'a str>,
     },
     /// `check NAME`: audit the session that was kept under this name.
     Check {
+        /// Under which it was kept.
         name: &'a str,
     },
     /// `log NAME`: say the records of the log of this name.
     Log {
+        /// The name of the log.
         name: &'a str,
     },
 }

@@ -11,6 +11,7 @@ use std::alloc::Global;
 // How many records a log may have where `--limit` is not given.
 const DEFAULT_LIMIT: u32 = 1_000_000;
 
+// A `pipe`, by the words after its name; and so of each command.
 fn read_pipe<'a>(alloc: Global, rest: &'a [String]) -> Result<Command<'a>, WordsRefusal>
     ensures read { IfOk result (λ c. pipe_from (map string_bytes rest.entry.now) ≡ Some (plain_of c)) }
     ensures in_range { IfOk result (λ c. IsInRange (plain_of c)) }
@@ -77,9 +78,9 @@ fn read_log<'a>(alloc: Global, rest: &'a [String]) -> Result<Command<'a>, WordsR
 
 /// The command that the words after the program's name ask for.
 ///
-/// The first word is the command's name. The rest is read as a plain command of `clap`: an option is `--name VALUE` or `--name=VALUE`, stands
-/// anywhere and at most once; `--` makes words of all that follows; a number is decimal digits, after a plus sign or zeros or none; a word may
-/// be empty, or `-`. There is no option for help or a version.
+/// The first word is the command's name. The rest is read as a plain command of `clap`: an option is `--name VALUE` or `--name=VALUE`, and
+/// stands anywhere and at most once; behind `--` there are only words; a number is decimal digits, which zeros or a plus sign may precede; a
+/// word may be empty, or `-`. There is no option for help or a version.
 ///
 /// | refusal | comes |
 /// |---|---|

@@ -1,18 +1,18 @@
-use Rattle.std.proofs.Common.{Err, ap, ap₂, arith, sym}
+use Rattle.std.proofs.Common.{Err, ap, ap₂, sym}
 use Rattle.demi_words.specs.Commands.{Pipe, pipe_of}
 use Rattle.demi_words.specs.Descriptions as describe
 use Rattle.demi_words.proofs.Founds.{pipe_has}
-use Rattle.demi_words.proofs.Numbers.{number_below}
 use Rattle.demi_words.proofs.Taken.{not_taken, passed_up, taken_as}
 use Rattle.demi_words.proofs.reading.read_pipe.Goals as goal
 
 pub returns-in_err-matches-clause-refused : goal.returns-in_err-matches-clause-refused
 returns-in_err-matches-clause-refused c =
     passed_up c.from_residual-in_err-matches.result c.in_err-matches.field-0.0 _ c.from_residual-in_err-matches.ensures.1
-    (λ usage. not_taken describe.pipe _ pipe_of _ c.in_ok-pipe.ensures (c.in_err-matches.ensures.refused (ap Err usage)))
+    (λ usage.
+    not_taken describe.pipe _ pipe_of _ c.in_ok-pipe.ensures (c.in_err-matches.ensures.refused (ap Err usage)))
 
 pub number_or-requires : goal.number_or-requires
-number_or-requires c t e = number_below 1 1000000 _ t (omega arith) ((pipe_has _ c.in_ok-matches.matches c.in_ok-pipe.ensures c.in_ok-matches.ensures.parsed).limit t e)
+number_or-requires c = (pipe_has _ c.in_ok-matches.matches c.in_ok-pipe.ensures c.in_ok-matches.ensures.parsed).limit
 
 pub returns-clause-read : goal.returns-clause-read
 returns-clause-read c =
