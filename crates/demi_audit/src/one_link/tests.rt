@@ -99,11 +99,13 @@ fn an_old_log_is_read(rt: HostRuntime) -> Result<(), Fail> {
         \x81\x00\x00\x00\x00\x00\x00\x00\x00\x02\x00\x00\x00\x00\x00\x00\x00\x03\x00\x00\x00\x013"
             .as_slice()
     );
-    assert_eq!(rt; text.len(), 48);
-    assert_eq!(rt; text[..35], OLD);
     assert_eq!(rt;
-        text[35..],
-        *b"\x00\x00\x00\x09\x00\x00\x00\x00\x00\x01\x01b3".as_slice()
+        text.as_slice(),
+        b"DEMILOG1\
+        \x00\x00\x00\x09\x00\x03\x00\x00\x00\x00\x01a1\
+        \x00\x00\x00\x0a\x00\x03\x00\x00\x00\x01\x01a22\
+        \x00\x00\x00\x09\x00\x00\x00\x00\x00\x01\x01b3"
+            .as_slice()
     );
     Ok(())
 }
