@@ -6,7 +6,7 @@ use Rattle.std.specs.Int.{w32, to_be_bytes}
 use Rattle.std.proofs.lemmas.List.{append-nil, map-append, take_all, take_more, drop-take, drop_at, take_at, drop-drop, length-map}
 use Rattle.std.proofs.lemmas.Grind.{flat_map-append}
 use Rattle.demi_spec.specs.Request.{IsBytes, IsKey, IsValue}
-use Rattle.demi_spec.specs.LogText.{header, entry, entries}
+use Rattle.demi_spec.specs.LogText.{header, entry, entries, entries_within}
 use Rattle.demi_spec.specs.Record.{Record, IsRecord, IsRecordLog, payload, log_of, entries_of, records}
 use Rattle.demi_spec.proofs.Payloads.{all_fit}
 use Rattle.demi_spec.proofs.RecordReads.{records_are}
@@ -20,7 +20,7 @@ use Rattle.demi_audit.proofs.Logged.{counted, payload_is, span_fits}
 
 -- a text with its header has the same records
 pub records_headed : (log : List ℕ) (old : List Record) → records log ≡ Ok old → records (headed log) ≡ Ok old
-unfolding entries
+unfolding entries entries_within
 records_headed [] old is = is
 records_headed (b ∷ log) old is = is
 
@@ -134,3 +134,31 @@ value_there text rs i p at r s stands from size =
           ∙ ap (drop n) (stands.text_is ∙ stands.is)
           ∙ value_part r,
     )
+
+-- the head of a payload says where its key and its value stand
+pub head_is : (text : List ℕ) (rs : List Record) (i : ℕ) (p : List ℕ) (at : ℕ) (r : Record) → Stands text rs i p at r → slice_index p 6 ≡ length r.key
+head_is text rs i p at r stands = ap (λ (l : List ℕ). slice_index l 6) stands.is ∙ key_size r
+
+pub head_fits : (text : List ℕ) (rs : List Record) (i : ℕ) (p : List ℕ) (at : ℕ) (r : Record) → Stands text rs i p at r → 7 + slice_index p 6 ≤ length p
+head_fits text rs i p at r stands = omega (arith, head_is text rs i p at r stands, ap length stands.is, length-payload r)
+
+pub key_is : (text : List ℕ) (rs : List Record) (i : ℕ) (p : List ℕ) (at : ℕ) (r : Record) (key : List ℕ) → Stands text rs i p at r → key ≡ take (slice_index p 6) (drop 7 p) → key ≡ r.key
+key_is text rs i p at r key stands is =
+    is ∙ ap (λ n. take n (drop 7 p)) (head_is text rs i p at r stands) ∙ ap (λ (l : List ℕ). take (length r.key) (drop 7 l)) stands.is ∙ key_part r
+
+-- an entry that was written in parts
+pub entry_written : (t t1 t2 t3 t4 t5 t6 key value : List ℕ) (n index : ℕ) → n ≡ 7 + length key + length value → t1 ≡ t ++ to_be_bytes w32 n → t2 ≡ t1 ++ 0 ∷ 0 ∷ [] → t3 ≡ t2 ++ to_be_bytes w32 index → t4 ≡ t3 ++ length key ∷ [] → t5 ≡ t4 ++ key
+    → t6 ≡ t5 ++ value → t6 ≡ t ++ entry (payload (record { link = 0; index = index; key = key; value = value }))
+entry_written t t1 t2 t3 t4 t5 t6 key value n index size e1 e2 e3 e4 e5 e6 =
+    let r : Record = record { link = 0; index = index; key = key; value = value } in
+    let long : n ≡ length (payload r) = omega (arith, length-payload r) in
+    e6 ∙ ap (λ (l : List ℕ). l ++ value) (e5 ∙ ap (λ (l : List ℕ). l ++ key) (e4 ∙ ap (λ (l : List ℕ). l ++ length key ∷ []) (e3 ∙ ap (λ (l : List ℕ). l ++ to_be_bytes w32 index) (e2 ∙ ap (λ (l : List ℕ). l ++ 0 ∷ 0 ∷ []) e1))))
+    ∙ ap (λ k. ((((t ++ to_be_bytes w32 k) ++ 0 ∷ 0 ∷ []) ++ to_be_bytes w32 index) ++ length key ∷ []) ++ key ++ value) long
+    ∙ together (to_be_bytes w32 (length (payload r))) (0 ∷ 0 ∷ []) (to_be_bytes w32 index) (length key ∷ [])
+  where
+    together : (a b c d : List ℕ) → ((((t ++ a) ++ b) ++ c) ++ d) ++ key ++ value ≡ t ++ (a ++ ((b ++ c ++ (d ++ key)) ++ value))
+    together a b c d = simp append_assoc
+
+pub stands_here : (text ends : List ℕ) (rs : List Record) (i : ℕ) (p : List ℕ) → Logs text ends rs → i < length ends → ((payloads : List (List ℕ)) → Holds (Some text) ends payloads → p ≡ get_or payloads i [])
+    → Stands text rs i p (place_of ends i + 4) (get_or rs i no_record)
+stands_here text ends rs i p l less is = stands_at text ends rs i p l less (is (map payload rs) (logs_hold text ends rs i l less))

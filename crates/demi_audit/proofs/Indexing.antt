@@ -21,15 +21,15 @@ map-push (x ∷ rs) r key = ap (store.unless_later x key) (map-push rs r key) �
 -- a value that is found is one of a record
 pub map_small : (rs : List Record) (key value : List ℕ) → AllByRecursion IsRecord rs → store.map rs key ≡ Some value → length value ≤ 65536
 map_small [] key value all is = absurd (cc)
-map_small (r ∷ rs) key value all is = step (store.map rs key) refl is
+map_small (r ∷ rs) key value all is = step (λ v e. map_small rs key v all.1 e) (store.map rs key) refl is
   where
     here : (b : Bool) → cond b (Some r.value) None ≡ Some value → length value ≤ 65536
     here true e = let same : r.value ≡ value = cc in subst (λ (l : List ℕ). length l ≤ 65536) same all.0.value
     here false e = absurd (cc)
 
-    step : (o : Option (List ℕ)) → store.map rs key ≡ o → store.unless_later r key o ≡ Some value → length value ≤ 65536
-    step (Some v) e is = let same : v ≡ value = cc in map_small rs key value all.1 (e ∙ ap Some same)
-    step None e is = here (bytes_eq r.key key) is
+    step : ((v : List ℕ) → store.map rs key ≡ Some v → length v ≤ 65536) → (o : Option (List ℕ)) → store.map rs key ≡ o → store.unless_later r key o ≡ Some value → length value ≤ 65536
+    step later (Some v) e is = let same : v ≡ value = cc in later value (e ∙ ap Some same)
+    step later None e is = here (bytes_eq r.key key) is
 
 -- bytes that stand in a text stand in a longer one
 bytes_more : (text more : List ℕ) (s : Span) → IsWithin text s → bytes_at (text ++ more) s ≡ bytes_at text s
@@ -83,3 +83,7 @@ pub tail_at : (front value : List ℕ) (n : ℕ) → n + length value ≡ length
 tail_at front value n is =
     let here : length front ≡ n = omega (arith, length-append front value) in
     ap (take (length value)) (drop_at front value n here) ∙ take_all (length value) value (omega arith)
+
+-- a place whose bytes are a value that was found
+pub found_small : (text : List ℕ) (values : Values) (rs : List Record) (key : List ℕ) (s : Span) → Indexes text values rs → AllByRecursion IsRecord rs → Some s ≡ span_of values key → length (bytes_at text s) ≤ 65536
+found_small text values rs key s i all is = map_small rs key (bytes_at text s) all (sym (i.finds key) ∙ ap (option_map (bytes_at text)) (sym is))

@@ -14,5 +14,6 @@ pub mod Finding
 pub mod Logged
 pub mod Indexing
 pub mod Entering
+pub mod Keeping
 pub mod Turning
 pub mod InOrder

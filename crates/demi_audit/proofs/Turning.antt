@@ -1,6 +1,8 @@
 -- What stands next in an input that is in memory.
-use Rattle.std.proofs.Common.{◌≡◌, ℕ, ◌+◌, ◌≤◌, ◌<◌, true, false, List, [], ◌∷◌, ◌++◌, length, take, drop, min, Option, Some, None, ap, sym, ◌∙◌, arith, append_assoc}
-use Rattle.std.proofs.lemmas.List.{append-nil, take-append-drop, drop-drop, drop_all}
+use Rattle.std.proofs.Common.{◌≡◌, ℕ, ◌+◌, ◌≤◌, ◌<◌, true, false, List, [], ◌∷◌, ◌++◌, length, take, drop, min, ◌-◌, length-take, Option, Some, None, refl, ap, sym, ◌∙◌, arith, append_assoc}
+use Rattle.std.specs.Prelude.{Bool, ◌==◌}
+use Rattle.std.proofs.lemmas.Bool.Decides.{nat_tests}
+use Rattle.std.proofs.lemmas.List.{append-nil, take-append-drop, drop-drop, nil_from_length, take-take, take_rest}
 use Rattle.demi_spec.specs.Request.{Request, End}
 use Rattle.demi_spec.specs.Input.{Clean, Refused, Open, Ends, Takes, front}
 use Rattle.demi_spec.proofs.Fronts.{open_ends, refused_ends, refused_more, ending_of}
@@ -46,3 +48,21 @@ pub clean_left : (rest unfed : List ℕ) → unfed ≡ [] → front false rest �
 clean_left rest unfed none is_open is =
     let ends : front true rest ≡ Ends (ending_of rest) = open_ends rest is_open in
     ap (front true) (all_fed rest unfed none) ∙ ends ∙ ap Ends (none_at rest (is ∙ ap code_of ends))
+
+-- nothing is left to be fed
+pub none_left : (unfed : List ℕ) (b : Bool) → b ≡ (length unfed == 0) → b ≡ true → unfed ≡ []
+none_left unfed b is set = let t : (length unfed == 0) ≡ true = sym is ∙ set in nil_from_length unfed (grind (arith, nat_tests))
+
+-- the piece that is fed, of a text of which so many bytes were fed
+pub fed_few : (input : List ℕ) (fed m : ℕ) → m ≡ min (length (take (length input - fed) (drop fed input))) 4096
+    → (length (take m (take (length input - fed) (drop fed input))) ≤ 4096) × (length (take m (take (length input - fed) (drop fed input))) ≤ length input - fed)
+fed_few input fed m is =
+    let unfed : List ℕ = take (length input - fed) (drop fed input) in
+    (omega (arith, length-take m unfed), omega (arith, length-take m unfed, length-take (length input - fed) (drop fed input)))
+
+pub fed_piece : (input : List ℕ) (fed m n : ℕ) → m ≡ min (length (take (length input - fed) (drop fed input))) 4096 → n ≡ length (take m (take (length input - fed) (drop fed input)))
+    → take n (take m (take (length input - fed) (drop fed input))) ≡ take n (drop fed input)
+fed_piece input fed m n is all =
+    let unfed : List ℕ = take (length input - fed) (drop fed input) in
+    let same : n ≡ m = omega (arith, length-take m unfed) in
+    take-take n m unfed (omega arith) ∙ ap (take n) (take_rest input fed)

@@ -1,5 +1,5 @@
 // A store over a log text in memory.
-ghost use Rattle.std.specs.Prelude.{◌≡◌, ◌+◌, ◌<◌, ◌≤◌, ◌++◌, [], ◌∷◌, ℕ, List, length, take, option_map, OnOk, IfOk, IfSome, Ok};
+ghost use Rattle.std.specs.Prelude.{◌≡◌, ◌+◌, ◌<◌, ◌≤◌, ◌++◌, [], ◌∷◌, ℕ, List, length, take, drop, slice_index, option_map, OnOk, IfOk, IfSome, Ok};
 ghost use Rattle.demi_spec.specs.Request.{IsKey, IsValue};
 ghost use Rattle.demi_spec.specs.LogText.{entry};
 ghost use Rattle.demi_spec.specs.Record.{Record, payload, records};
@@ -33,6 +33,16 @@ fn text_of(alloc: Global, log: &[u8]) -> Result<Vec<u8>, NoMemory>
     Ok(text.to_vec(alloc)?)
 }
 
+// The key of a record's payload.
+fn key_of(payload: &[u8]) -> &[u8]
+    requires head { 7 ≤ length payload.now }
+    requires key { 7 + slice_index payload.now 6 ≤ length payload.now }
+    ensures { result.now ≡ take (slice_index payload.now 6) (drop 7 payload.now) }
+{
+    let end = HEAD_BYTES + payload[HEAD_BYTES - 1] as usize;
+    &payload[HEAD_BYTES..end]
+}
+
 // Reads the entry of this number: its key has its value from now on.
 fn index_entry(
     alloc: Global,
@@ -46,12 +56,13 @@ fn index_entry(
     ensures { OnOk result ((rs : List Record) → Logs text.now ends.now rs → Indexes text.now values.old (take i rs) → Indexes text.now values.new (take (i + 1) rs)) }
 {
     let payload = payload_at(text, ends, i);
-    let head = HEAD_BYTES + payload[HEAD_BYTES - 1] as usize;
+    let key = key_of(payload);
+    let head = HEAD_BYTES + key.len();
     let span = Span {
         from: place(ends, i) + LENGTH_BYTES + head,
         size: payload.len() - head,
     };
-    values.set(alloc, &payload[HEAD_BYTES..head], span)
+    values.set(alloc, key, span)
 }
 
 // The entries of a log text of records.
