@@ -162,3 +162,8 @@ entry_written t t1 t2 t3 t4 t5 t6 key value n index size e1 e2 e3 e4 e5 e6 =
 pub stands_here : (text ends : List ℕ) (rs : List Record) (i : ℕ) (p : List ℕ) → Logs text ends rs → i < length ends → ((payloads : List (List ℕ)) → Holds (Some text) ends payloads → p ≡ get_or payloads i [])
     → Stands text rs i p (place_of ends i + 4) (get_or rs i no_record)
 stands_here text ends rs i p l less is = stands_at text ends rs i p l less (is (map payload rs) (logs_hold text ends rs i l less))
+
+-- a text of old and new records, by what was there
+pub text_after : (log text : List ℕ) (old new : List Record) → IsBytes log → records log ≡ Ok old → text ≡ log_of (old ++ new) → text ≡ headed log ++ entries_of new
+text_after log text old new bytes is text_is =
+    text_is ∙ entries-append old new ∙ ap (λ (l : List ℕ). l ++ entries_of new) (sym (headed_text log old bytes is).0)

@@ -12,7 +12,7 @@ use Rattle.demi_spec.specs.Reply.{Reply}
 use Rattle.demi_spec.specs.Record.{Record}
 use Rattle.demi_spec.specs.Store.{answer, added, serial, Effect}
 use Rattle.demi_spec.specs.Store as store
-use Rattle.demi_spec.proofs.Parsing.{AllGoOn-push, asked_is, asked_on}
+use Rattle.demi_spec.proofs.Parsing.{AllGoOn-push, asked_is, asked_on, length-spelling}
 use Rattle.demi_spec.proofs.Serial.{serial-push, with_one}
 use Rattle.demi_audit.specs.declared.text_store.TextStore.{TextStore}
 use Rattle.demi_audit.specs.TextStores.{AnswersAll, Answered, Keeps, SoFar, asks_of, reply_on}
@@ -72,6 +72,17 @@ so_answered old limit input left after output output' s s' count q so takes on o
       answers = subst (λ (l : List Asked). AnswersAll old limit l output' s') push
           (all_answered old limit (asks_of rs) (Request_of q) output output' s s' count (count_asks count rs so.count_is) so.answers one);
     }
+
+-- the same by what the code answered
+pub so_next : (old : List Record) (limit : ℕ) (input left after output output' : List ℕ) (s s' : TextStore) (count : ℕ) (q asked_for : Request) → SoFar old limit input left output s count → Takes left q after → GoesOn q → asked_for ≡ q
+    → ((rs : List Record) → Keeps s rs → Answered rs limit count (Request_of asked_for) output output' s') → SoFar old limit input after output' s' (count + 1)
+so_next old limit input left after output output' s s' count q asked_for so takes on is answers =
+    let rs : List Record = old ++ (serial old limit (asks_of so.requests)).records in
+    so_answered old limit input left after output output' s s' count q so takes on
+    (subst (λ (x : Request). Answered rs limit count (Request_of x) output output' s') is (answers rs so.answers.keeps))
+
+pub left_shorter : (left after : List ℕ) (q : Request) → Takes left q after → 6 + length after ≤ length left
+left_shorter left after q takes = omega (arith, ap length takes.text, length-append (request.spelling q) after, length-spelling q)
 
 -- what is asked by what is left, where that is known, is all that was not answered
 served_by : (old : List Record) (limit : ℕ) (input left output output' : List ℕ) (s s' : TextStore) (count : ℕ) (so : SoFar old limit input left output s count) (more : List Asked)
