@@ -12,3 +12,8 @@ pub mod Fields
 pub mod Links
 pub mod Finding
 pub mod Logged
+pub mod Indexing
+pub mod Entering
+pub mod Keeping
+pub mod Turning
+pub mod InOrder

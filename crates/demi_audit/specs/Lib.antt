@@ -3,3 +3,6 @@ pub mod Entries
 pub mod Transcript
 pub mod Reading
 pub mod Verdict
+pub mod Client
+pub mod Inputs
+pub mod TextStores

@@ -65,7 +65,8 @@ pub(crate) fn number_of_8(field: &[u8]) -> u64
 /// What a log text begins with.
 pub(crate) const HEADER: [u8; 8] = *b"DEMILOG1";
 
-const LENGTH_BYTES: usize = 4;
+/// How many bytes the length of an entry has.
+pub(crate) const LENGTH_BYTES: usize = 4;
 
 const MAX_PAYLOAD_BYTES: usize = 65_798;
 
@@ -133,8 +134,8 @@ pub(crate) fn place(ends: &[usize], i: usize) -> usize
     if i == 0 { HEADER.len() } else { ends[i - 1] }
 }
 
-// The payload of the entry of this number.
-fn payload_at<'a>(text: &'a [u8], ends: &[usize], i: usize) -> &'a [u8]
+/// The payload of the entry of this number.
+pub(crate) fn payload_at<'a>(text: &'a [u8], ends: &[usize], i: usize) -> &'a [u8]
     requires stands { (payloads : List (List ℕ)) × Holds (Some text.now) ends.now payloads }
     requires there { i < length ends.now }
     ensures { (payloads : List (List ℕ)) → Holds (Some text.now) ends.now payloads → result.now ≡ get_or payloads i [] }

@@ -10,10 +10,15 @@
 mod dealing;
 mod draws;
 mod entries;
+mod input_reader;
 mod laws;
+mod one_link;
 #[cfg(test)]
 mod tests;
+mod text_store;
 mod transcript;
+mod values;
 
 pub use dealing::generate;
 pub use laws::the_verdict_is_whole;
+pub use one_link::client;
