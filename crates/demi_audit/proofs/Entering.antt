@@ -1,17 +1,16 @@
 -- Entries that a text has, and one entry more.
 use Rattle.std.proofs.Common.{◌≡◌, ℕ, zero, suc, ◌+◌, ◌-◌, ◌≤◌, ◌<◌, List, [], ◌∷◌, ◌++◌, length, take, drop, get_or, map, flat_map, Some, refl, ap, sym, ◌∙◌, subst, arith, append_assoc, length-append, length-drop, length-take, inl, inr}
-use Rattle.std.specs.Prelude.{Ok, Err, ◌⊎◌, slice_index}
+use Rattle.std.specs.Prelude.{Ok, slice_index}
 use Rattle.std.specs.List.{AllByRecursion}
 use Rattle.std.specs.Int.{w32, to_be_bytes}
-use Rattle.std.proofs.lemmas.List.{append-nil, map-append, take_all, take_more, drop-take, drop_at, take_at, drop-drop, length-map}
+use Rattle.std.proofs.lemmas.List.{append-nil, map-append, take_all, take_more, drop-take, drop_at, take_at, drop-drop}
 use Rattle.std.proofs.lemmas.Grind.{flat_map-append}
-use Rattle.demi_spec.specs.Request.{IsBytes, IsKey, IsValue}
+use Rattle.demi_spec.specs.Request.{IsBytes}
 use Rattle.demi_spec.specs.LogText.{header, entry, entries, entries_within}
 use Rattle.demi_spec.specs.Record.{Record, IsRecord, IsRecordLog, payload, log_of, entries_of, records}
 use Rattle.demi_spec.proofs.Payloads.{all_fit}
 use Rattle.demi_spec.proofs.RecordReads.{records_are}
 use Rattle.demi_logq.specs.Logged.{Holds, ends_from, place_of}
-use Rattle.demi_logq.proofs.Entry.{length-ends}
 use Rattle.demi_audit.specs.Client.{headed}
 use Rattle.demi_audit.specs.Entries.{Logs}
 use Rattle.demi_audit.specs.TextStores.{IsWithin, bytes_at}

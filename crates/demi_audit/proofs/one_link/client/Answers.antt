@@ -1,5 +1,5 @@
-use Rattle.std.proofs.Common.{◌∙◌, ap, sym, arith}
-use Rattle.demi_spec.specs.Record.{records, entries_of}
+use Rattle.std.proofs.Common.{◌∙◌, ap, arith}
+use Rattle.demi_spec.specs.Record.{records}
 use Rattle.demi_spec.proofs.Payloads.{records_again}
 use Rattle.demi_audit.specs.Client.{added_on}
 use Rattle.demi_audit.proofs.Entering.{text_after}

@@ -1,4 +1,4 @@
-use Rattle.std.proofs.Common.{◌≡◌, ◌+◌, ◌*◌, ◌≤◌, List, length}
+use Rattle.std.proofs.Common.{◌+◌, ◌*◌, ◌≤◌, List, length}
 use Rattle.demi_spec.specs.Record.{Record}
 use Rattle.demi_audit.specs.Inputs.{IsReader, left}
 use Rattle.demi_audit.specs.TextStores.{Keeps, SoFar}

@@ -1,4 +1,4 @@
-use Rattle.std.proofs.Common.{◌≡◌, ◌∙◌, ap, sym, ℕ, ◌+◌, ◌-◌, List, [], ◌++◌, length, take, drop, None, true, refl, arith}
+use Rattle.std.proofs.Common.{◌≡◌, ◌∙◌, ap, sym, ℕ, ◌-◌, List, [], ◌++◌, length, take, drop, None, true, refl, arith}
 use Rattle.std.proofs.lemmas.List.{take_rest}
 use Rattle.demi_spec.specs.Input.{front}
 use Rattle.demi_frame.specs.Decoding.{Decoding, code_of, finish_of}

@@ -1,7 +1,5 @@
-use Rattle.std.proofs.Common.{◌≡◌, ◌∙◌, ◌+◌, ℕ, List, ap, sym, subst, arith, length, take, refl}
-use Rattle.std.specs.Prelude.{Ok}
-use Rattle.demi_spec.specs.Record.{Record, records}
-use Rattle.demi_audit.specs.Entries.{Logs}
+use Rattle.std.proofs.Common.{◌∙◌, ◌+◌, ℕ, List, ap, sym, subst, arith, take, refl}
+use Rattle.demi_spec.specs.Record.{records}
 use Rattle.demi_audit.specs.TextStores.{Indexes}
 use Rattle.demi_audit.proofs.Entering.{records_headed}
 use Rattle.demi_audit.proofs.Keeping.{logs_by, opened}

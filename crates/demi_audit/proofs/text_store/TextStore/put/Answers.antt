@@ -1,4 +1,4 @@
-use Rattle.std.proofs.Common.{◌-◌, ℕ, ap, length, arith, refl}
+use Rattle.std.proofs.Common.{arith, refl}
 use Rattle.demi_audit.proofs.Keeping.{kept_put}
 use Rattle.demi_audit.proofs.text_store.TextStore.put.Goals as goal
 
