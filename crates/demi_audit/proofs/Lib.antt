@@ -12,3 +12,8 @@ pub mod Fields
 pub mod Links
 pub mod Finding
 pub mod Logged
+pub mod Placing
+pub mod Raising
+pub mod Turning
+pub mod Hearings
+pub mod AskReads

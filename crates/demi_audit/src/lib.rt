@@ -8,12 +8,18 @@
 #![tactic(auto)]
 
 mod dealing;
+mod ahead;
+mod ask;
 mod draws;
 mod entries;
+mod heard;
+mod hearing;
 mod laws;
+mod places;
 #[cfg(test)]
 mod tests;
 mod transcript;
+mod turns;
 
 pub use dealing::generate;
 pub use laws::the_verdict_is_whole;
