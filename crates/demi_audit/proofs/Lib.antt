@@ -17,3 +17,4 @@ pub mod Raising
 pub mod Turning
 pub mod Hearings
 pub mod AskReads
+pub mod Pasts

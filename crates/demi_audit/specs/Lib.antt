@@ -6,3 +6,4 @@ pub mod Verdict
 pub mod Hearing
 pub mod Turns
 pub mod Asking
+pub mod Past

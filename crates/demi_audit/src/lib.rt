@@ -15,6 +15,7 @@ mod entries;
 mod heard;
 mod hearing;
 mod laws;
+mod past;
 mod places;
 #[cfg(test)]
 mod tests;
