@@ -20,7 +20,7 @@ use Rattle.demi_audit.specs.declared.transcript.LinkPlaces.{LinkPlaces}
 use Rattle.demi_audit.specs.Reading.{link_by}
 use Rattle.demi_audit.specs.Transcript.{part}
 use Rattle.demi_audit.specs.Verdict.{Heard, HeardAll, HeardOf, NoReply}
-use Rattle.demi_audit.specs.Hearing.{Follows, Hears, answer_by, replies_by, reply_by}
+use Rattle.demi_audit.specs.Hearing.{Follows, Hears, StandsIn, answer_by, replies_by, reply_by}
 
 -- a text that begins a reply, and has not all of it, has none at its front
 pub begun_none : (text : List ℕ) → BeginsReply text → NoReply text
@@ -36,15 +36,20 @@ pub record HeardUpTo (text output : List ℕ) (old new : List HeardReply) (at : 
   pub more : List HeardReply
   pub all : new ≡ old ++ more
   pub fits : AllByRecursion IsReply (replies_by text more)
+  pub inside : AllByRecursion (StandsIn (length text)) more
   pub text_is : output ≡ flat_map spelling (replies_by text more) ++ drop at output
   pub within : at ≤ length output
 
 pub heard_none : (text output : List ℕ) (old : List HeardReply) → HeardUpTo text output old old 0
-heard_none text output old = record { more = []; all = sym (append-nil old); fits = tt; text_is = refl; within = omega arith }
+heard_none text output old = record { more = []; all = sym (append-nil old); fits = tt; inside = tt; text_is = refl; within = omega arith }
 
-all_more : (rs : List Reply) (r : Reply) → AllByRecursion IsReply rs → IsReply r → AllByRecursion IsReply (rs ++ r ∷ [])
-all_more [] r all one = (one, tt)
-all_more (q ∷ rs) r all one = (all.0, all_more rs r all.1 one)
+all_more : {X : Type 0} (P : X → Type 0) (rs : List X) (r : X) → AllByRecursion P rs → P r → AllByRecursion P (rs ++ r ∷ [])
+all_more P [] r all one = (one, tt)
+all_more P (q ∷ rs) r all one = (all.0, all_more P rs r all.1 one)
+
+all_joined : {X : Type 0} (P : X → Type 0) (rs qs : List X) → AllByRecursion P rs → AllByRecursion P qs → AllByRecursion P (rs ++ qs)
+all_joined P [] qs all more = more
+all_joined P (r ∷ rs) qs all more = (all.0, all_joined P rs qs all.1 more)
 
 spelled_more : (rs : List Reply) (r : Reply) (rest : List ℕ) → flat_map spelling rs ++ (spelling r ++ rest) ≡ flat_map spelling (rs ++ r ∷ []) ++ rest
 spelled_more [] r rest = ap (λ (l : List ℕ). l ++ rest) (sym (append-nil (spelling r)))
@@ -69,8 +74,8 @@ used_within front said used read = omega (arith, used_is front said used read, a
 
 -- one reply more
 pub heard_more : (text output : List ℕ) (old new : List HeardReply) (at used : ℕ) (said : Said) (r : HeardReply) → HeardUpTo text output old new at → (read : ReadsBack (drop at output) said used)
-    → reply_by text r ≡ read.reply → HeardUpTo text output old (new ++ r ∷ []) (at + used)
-heard_more text output old new at used said r h read is =
+    → reply_by text r ≡ read.reply → StandsIn (length text) r → HeardUpTo text output old (new ++ r ∷ []) (at + used)
+heard_more text output old new at used said r h read is stands =
     let rs : List Reply = replies_by text h.more in
     let same : replies_by text (h.more ++ r ∷ []) ≡ rs ++ read.reply ∷ [] = map-append (reply_by text) h.more (r ∷ []) ∙ ap (λ (x : Reply). rs ++ x ∷ []) is in
     let u = used_is (drop at output) said used read in
@@ -78,7 +83,8 @@ heard_more text output old new at used said r h read is =
     record {
       more = h.more ++ r ∷ [];
       all = ap (λ (l : List HeardReply). l ++ r ∷ []) h.all ∙ append_assoc old h.more (r ∷ []);
-      fits = subst (AllByRecursion IsReply) (sym same) (all_more rs read.reply h.fits read.fits);
+      fits = subst (AllByRecursion IsReply) (sym same) (all_more IsReply rs read.reply h.fits read.fits);
+      inside = all_more (StandsIn (length text)) h.more r h.inside stands;
       text_is = h.text_is ∙ ap (λ (l : List ℕ). flat_map spelling rs ++ l) read.text ∙ spelled_more rs read.reply read.rest
           ∙ ap (λ (l : List ℕ). flat_map spelling (rs ++ read.reply ∷ []) ++ l) (sym rest) ∙ ap (λ (l : List Reply). flat_map spelling l ++ drop (at + used) output) (sym same);
       within = omega (arith, used_within (drop at output) said used read, length-drop at output, h.within);
@@ -111,6 +117,7 @@ hears text output old new from size at l h is fits none count more =
       rest = drop at output;
       count = omega (arith, count, ap length h.all, length-append old h.more);
       fits = h.fits;
+      inside = h.inside;
       text_is = sym is ∙ h.text_is;
       none = none;
       more = more ∙ same_test at size (length (drop at output)) (omega (arith, length-drop at output, long));
@@ -151,6 +158,7 @@ pub record HeardLinks (text : List ℕ) (places : List LinkPlaces) (heard : List
   pub all : List Heard
   pub of : HeardAll (map (link_by text) places) all
   pub follows : Follows text heard links all
+  pub inside : AllByRecursion (StandsIn (length text)) heard
 
 pub link_more : (text : List ℕ) (places : List LinkPlaces) (n : ℕ) (d : LinkPlaces) (heard more new : List HeardReply) (links : List LinkHeard) (l : LinkHeard) → n < length places
     → HeardLinks text (take n places) heard links → new ≡ heard ++ more → Hears text (get_or places n d).output (get_or places n d).output_size l more → HeardLinks text (take (n + 1) places) new (links ++ l ∷ [])
@@ -164,6 +172,7 @@ link_more text places n d heard more new links l less h is one =
       all = h.all ++ x ∷ [];
       of = subst (λ (k : List LinkRun). HeardAll k (h.all ++ x ∷ [])) (sym grown) (heard_all_more (map (link_by text) (take n places)) h.all (link_by text p) x h.of each);
       follows = subst (λ (k : List HeardReply). Follows text k (links ++ l ∷ []) (h.all ++ x ∷ [])) (sym is) (follows_more text heard more links h.all l x h.follows one.count refl one.more);
+      inside = subst (AllByRecursion (StandsIn (length text))) (sym is) (all_joined (StandsIn (length text)) heard more h.inside one.inside);
     }
 
 -- places where a list has none
@@ -174,9 +183,9 @@ no_places = record { input = 0; input_size = 0; output = 0; output_size = 0 }
 abbrev StandsFor : ℕ → Said → HeardReply → List ℕ → Type 0
 StandsFor place said r front = (used : ℕ) (read : ReadsBack front said used) (text : List ℕ) → take said.length (drop place text) ≡ take said.length (drop 22 front) → reply_by text r ≡ read.reply
 
-pub next_heard : (text output : List ℕ) (old new : List HeardReply) (from size at used : ℕ) (said : Said) (r : HeardReply) → output ≡ take size (drop from text) → HeardUpTo text output old new at
-    → ReadsBack (take (length output - at) (drop at output)) said used → StandsFor (from + at + 22) said r (take (length output - at) (drop at output)) → HeardUpTo text output old (new ++ r ∷ []) (at + used)
-next_heard text output old new from size at used said r is h read stands =
+pub next_heard : (text output : List ℕ) (old new : List HeardReply) (from size at used : ℕ) (said : Said) (r : HeardReply) → output ≡ take size (drop from text) → from + size ≤ length text → HeardUpTo text output old new at
+    → ReadsBack (take (length output - at) (drop at output)) said used → r.from ≡ from + at + 22 → r.length ≡ said.length → StandsFor (from + at + 22) said r (take (length output - at) (drop at output)) → HeardUpTo text output old (new ++ r ∷ []) (at + used)
+next_heard text output old new from size at used said r is fits h read place count stands =
     let e : take (length output - at) (drop at output) ≡ drop at output = take_rest output at in
     let there : ReadsBack (drop at output) said used = subst (λ (l : List ℕ). ReadsBack l said used) e read in
     let f : StandsFor (from + at + 22) said r (drop at output) = subst (StandsFor (from + at + 22) said r) e stands in
@@ -184,4 +193,4 @@ next_heard text output old new from size at used said r is h read stands =
     let within : at + 22 + said.length ≤ size = omega (arith, there.count, used_within (drop at output) said used there, length-drop at output, h.within) in
     let same : take said.length (drop (from + at + 22) text) ≡ take said.length (drop 22 (drop at output)) =
     same_bytes text from size at said.length within ∙ ap (λ (l : List ℕ). take said.length (drop 22 (drop at l))) (sym is) in
-    heard_more text output old new at used said r h there (f used there text same)
+    heard_more text output old new at used said r h there (f used there text same) (omega (arith, place, count, within))

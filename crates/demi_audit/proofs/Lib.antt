@@ -18,3 +18,4 @@ pub mod Turning
 pub mod Hearings
 pub mod AskReads
 pub mod Pasts
+pub mod Books

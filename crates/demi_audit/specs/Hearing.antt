@@ -1,5 +1,5 @@
 -- What was heard of a link, and what it stands for.
-use Rattle.std.specs.Prelude.{◌≡◌, ◌≤◌, ℕ, Bool, nat_lt, List, [], ◌∷◌, ◌++◌, length, map, flat_map, take, drop}
+use Rattle.std.specs.Prelude.{◌≡◌, ◌+◌, ◌≤◌, ℕ, Bool, nat_lt, List, [], ◌∷◌, ◌++◌, length, map, flat_map, take, drop}
 use Rattle.std.specs.List.{AllByRecursion}
 use Rattle.demi_spec.specs.Reply as spoken
 use Rattle.demi_spec.specs.Reply.{Answer, Reply, IsReply}
@@ -35,11 +35,16 @@ height kind.Full version = version
 height (kind.Refused code) version = 0
 height kind.Bye version = 0
 
+-- the bytes of a reply stand inside a text of this length
+abbrev pub StandsIn : ℕ → HeardReply → Type 0
+StandsIn size r = r.from + r.length ≤ size
+
 -- These replies were heard of the part of a text that begins there and is so long.
 pub record Hears (text : List ℕ) (from size : ℕ) (l : LinkHeard) (heard : List HeardReply) : Type 0 where
   pub rest : List ℕ
   pub count : l.count ≡ length heard
   pub fits : AllByRecursion IsReply (replies_by text heard)
+  pub inside : AllByRecursion (StandsIn (length text)) heard
   pub text_is : part text from size ≡ flat_map spoken.spelling (replies_by text heard) ++ rest
   pub none : NoReply rest
   pub more : l.more ≡ nat_lt 0 (length rest)

@@ -7,3 +7,5 @@ pub mod Hearing
 pub mod Turns
 pub mod Asking
 pub mod Past
+pub mod Book
+pub mod Falling

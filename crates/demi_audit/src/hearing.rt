@@ -4,7 +4,7 @@ ghost use Rattle.std.specs.List.{AllByRecursion};
 ghost use Rattle.demi_frame.specs.ReadBack.{ReadsBack};
 ghost use Rattle.demi_audit.specs.Reading.{IsInside, link_by};
 ghost use Rattle.demi_audit.specs.Verdict.{Heard, HeardAll, NoReply};
-ghost use Rattle.demi_audit.specs.Hearing.{Follows, Hears, answer_by, reply_by};
+ghost use Rattle.demi_audit.specs.Hearing.{Follows, Hears, StandsIn, answer_by, reply_by};
 
 use crate::heard::{AnswerKind, HeardReply};
 use crate::transcript::LinkPlaces;
@@ -57,7 +57,9 @@ fn kind_of(front: &[u8], reply: Reply) -> AnswerKind
 fn heard_at(front: &[u8], reply: Reply, at: usize) -> HeardReply
     requires read { (used : ℕ) × ReadsBack front.now reply used }
     requires place { at + 22 < 2 ^ 64 }
-    ensures { (used : ℕ) (read : ReadsBack front.now reply used) (text : List ℕ)
+    ensures from { result.from ≡ at + 22 }
+    ensures length { result.length ≡ reply.length }
+    ensures reply { (used : ℕ) (read : ReadsBack front.now reply used) (text : List ℕ)
         → take reply.length (drop (at + 22) text) ≡ take reply.length (drop 22 front.now) → reply_by text result ≡ read.reply }
 {
     HeardReply {
@@ -96,7 +98,8 @@ fn hear_link(
 /// Hears all links of a transcript. It takes 32 bytes of memory for each reply, and while it grows as much again.
 pub(crate) fn hear(alloc: Global, text: &[u8], places: &[LinkPlaces]) -> Result<Hearing, NoMemory>
     requires { AllByRecursion (IsInside (length text.now)) places.now }
-    ensures { IfOk result (λ h. (all : List Heard) × HeardAll (map (link_by text.now) places.now) all × Follows text.now h.heard.items h.links.items all) }
+    ensures heard { IfOk result (λ h. (all : List Heard) × HeardAll (map (link_by text.now) places.now) all × Follows text.now h.heard.items h.links.items all) }
+    ensures inside { IfOk result (λ h. AllByRecursion (StandsIn (length text.now)) h.heard.items) }
 {
     let mut heard = Vec::new(alloc);
     let mut links = Vec::new(alloc);

@@ -10,13 +10,16 @@
 mod dealing;
 mod ahead;
 mod ask;
+mod book;
 mod draws;
 mod entries;
+mod falling;
 mod heard;
 mod hearing;
 mod laws;
 mod past;
 mod places;
+mod replying;
 #[cfg(test)]
 mod tests;
 mod transcript;
