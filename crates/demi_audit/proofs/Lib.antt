@@ -19,3 +19,5 @@ pub mod Hearings
 pub mod AskReads
 pub mod Pasts
 pub mod Books
+pub mod Falls
+pub mod Judgings

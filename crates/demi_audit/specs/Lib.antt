@@ -9,3 +9,4 @@ pub mod Asking
 pub mod Past
 pub mod Book
 pub mod Falling
+pub mod Judging

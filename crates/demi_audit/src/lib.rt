@@ -16,6 +16,7 @@ mod entries;
 mod falling;
 mod heard;
 mod hearing;
+mod judging;
 mod laws;
 mod past;
 mod places;
