@@ -21,3 +21,5 @@ pub mod Pasts
 pub mod Books
 pub mod Falls
 pub mod Judgings
+pub mod EachLink
+pub mod EachRecord

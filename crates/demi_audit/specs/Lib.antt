@@ -10,3 +10,4 @@ pub mod Past
 pub mod Book
 pub mod Falling
 pub mod Judging
+pub mod Checking

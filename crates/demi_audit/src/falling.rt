@@ -7,8 +7,8 @@ ghost use Rattle.demi_audit.specs.Falling.{later_of};
 
 use crate::heard::{AnswerKind, version_named};
 
-// Whether an answer of this kind is that of a stored put.
-fn is_stored(kind: AnswerKind) -> bool
+/// Whether an answer of this kind is that of a stored put.
+pub(crate) fn is_stored(kind: AnswerKind) -> bool
     ensures { (version : ℕ) (bytes : List ℕ) → result ≡ is_stored (answer_by kind version bytes) }
 {
     match kind {

@@ -12,6 +12,8 @@ mod ahead;
 mod ask;
 mod book;
 mod draws;
+mod each_link;
+mod each_record;
 mod entries;
 mod falling;
 mod heard;

@@ -49,8 +49,8 @@ fn mark(places: &Places, given: &mut Vec<bool>, reply: HeardReply)
     }
 }
 
-// A table of so many marks, none of which is set.
-fn no_marks(alloc: Global, count: usize) -> Result<Vec<bool>, NoMemory>
+/// A table of so many marks, none of which is set.
+pub(crate) fn no_marks(alloc: Global, count: usize) -> Result<Vec<bool>, NoMemory>
     ensures { IfOk result (λ v. v.items ≡ replicate count false) }
 {
     let mut table = Vec::new(alloc);
