@@ -23,3 +23,4 @@ pub mod Falls
 pub mod Judgings
 pub mod EachLink
 pub mod EachRecord
+pub mod Checks

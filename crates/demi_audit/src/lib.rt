@@ -11,6 +11,7 @@ mod dealing;
 mod ahead;
 mod ask;
 mod book;
+mod checking;
 mod draws;
 mod each_link;
 mod each_record;
@@ -28,5 +29,6 @@ mod tests;
 mod transcript;
 mod turns;
 
+pub use checking::{CheckEnd, CheckRefusal, check};
 pub use dealing::generate;
 pub use laws::the_verdict_is_whole;
