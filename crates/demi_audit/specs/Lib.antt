@@ -6,3 +6,11 @@ pub mod Verdict
 pub mod Client
 pub mod Inputs
 pub mod TextStores
+pub mod Hearing
+pub mod Turns
+pub mod Asking
+pub mod Past
+pub mod Book
+pub mod Falling
+pub mod Judging
+pub mod Checking

@@ -1,5 +1,5 @@
 // A log text in memory: where its entries end, and which records they hold.
-ghost use Rattle.std.specs.Prelude.{◌≡◌, ◌≢◌, ◌+◌, ◌<◌, ◌≤◌, ◌^◌, ℕ, List, [], length, take, drop, option_map, Some, Ok, Err, IfOk, IfErr, get_or, bytes_eq};
+ghost use Rattle.std.specs.Prelude.{◌≡◌, ◌≢◌, ◌+◌, ◌<◌, ◌≤◌, ◌^◌, ℕ, List, [], length, take, drop, option_map, Some, Ok, Err, IfOk, IfErr, IfSome, get_or, bytes_eq};
 ghost use Rattle.std.specs.Int.{w16, w32, w64, from_be_bytes, to_be_bytes};
 ghost use Rattle.demi_spec.specs.Record.{Record, record_of, records as records_of_text};
 ghost use Rattle.demi_spec.specs.LogText.{entries as entries_of_text};
@@ -75,7 +75,8 @@ const MAX_VALUE_BYTES: usize = 65_536;
 /// The fields of a payload, where it is a record.
 #[tactic(auto, using(std::proofs::lemmas::Bool::Decides::nat_tests), unfolding(demi_spec::specs::Record::record_of))]
 pub(crate) fn parts_of(payload: &[u8]) -> Option<Parts>
-    ensures { option_map (record_by payload.now) result ≡ record_of payload.now }
+    ensures record { option_map (record_by payload.now) result ≡ record_of payload.now }
+    ensures within { IfSome result (λ p. 7 + p.key ≤ length payload.now) }
 {
     if payload.len() < 8 {
         return None;

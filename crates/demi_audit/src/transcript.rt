@@ -69,7 +69,8 @@ const LINKS_AT: usize = 16;
 
 const LOG_SIZE_AT: usize = 20;
 
-const LOG_AT: usize = 28;
+/// Where the log begins.
+pub(crate) const LOG_AT: usize = 28;
 
 const MAX_LIMIT: u32 = 1_000_000;
 

@@ -20,7 +20,7 @@ returns-then-is_none-clause-bad c = λ at same.
     let p = c.payload_at.result.now in
     let less : i < length ends = omega (arith, c.reading-test.true, c.len-i-end.ensures, c.in_ok-ends.ends.ok.0) in
     let is = payload_here text ends c.deref.result.now f.before i p h c.deref.ensures.value c.payload_at.ensures in
-    let none = no_parts p c.parts_of.result c.is_none.result c.parts_of.ensures c.is_none.ensures c.if-is_none.true in
+    let none = no_parts p c.parts_of.result c.is_none.result c.parts_of.ensures.record c.is_none.ensures c.if-is_none.true in
     let bad = read_bad text ends f i p (λ k. omega (arith, c.type_inv.text k)) less (c.reading.invariant f.before h) is none in
     let here : c.place.result ≡ place_of ends i = c.place.ensures ∙ ap (λ (l : List ℕ). place_of l i) c.deref-then-is_none.ensures.value in
     bad_here (records text) c.place.result (bad ∙ ap (λ n. Err n) (sym here)) at same
@@ -34,7 +34,7 @@ reading-preserved c = λ payloads h.
     let less : i < length ends = omega (arith, c.reading-test.true, c.len-i-end.ensures, c.in_ok-ends.ends.ok.0) in
     let is = payload_here text ends c.deref.result.now payloads i p h c.deref.ensures.value c.payload_at.ensures in
     read_next text ends payloads i p (λ k. omega (arith, c.type_inv.text k)) h less (c.reading.invariant payloads h) is
-    (some_parts p c.parts_of.result c.is_none.result c.parts_of.ensures c.is_none.ensures c.if-is_none.false)
+    (some_parts p c.parts_of.result c.is_none.result c.parts_of.ensures.record c.is_none.ensures c.if-is_none.false)
 
 pub returns-clause-read : goal.returns-clause-read
 returns-clause-read c =
