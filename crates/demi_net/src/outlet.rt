@@ -1,0 +1,59 @@
+ghost use Rattle.std.specs.Prelude.{◌+◌, ◌<◌, ◌≤◌, length, IfOk, IfSome};
+
+use std::io;
+use std::io::{ErrorKind, IoSlice, Stdout, Write};
+use std::net::TcpStream;
+
+// Where the bytes of a sink go.
+#[derive(Drop)]
+pub(crate) enum Outlet {
+    Standard(Stdout),
+    Connection(TcpStream),
+}
+
+impl Write for Outlet {
+    fn write(&mut self, piece: &[u8]) -> io::Result<usize> {
+        match self {
+            Outlet::Standard(stdout) => stdout.write(piece),
+            Outlet::Connection(stream) => stream.write(piece),
+        }
+    }
+
+    fn flush(&mut self) -> io::Result<()> {
+        match self {
+            Outlet::Standard(stdout) => stdout.flush(),
+            Outlet::Connection(stream) => stream.flush(),
+        }
+    }
+}
+
+impl Outlet {
+    // One call to the system. Standard output takes of the first piece that has bytes alone: the toolchain has no single call
+    // by which it takes two, and a copy of both into one buffer would be made again of what the system did not take.
+    fn write_two(&mut self, first: &[u8], second: &[u8]) -> io::Result<usize>
+        ensures { IfOk result (λ count. count ≤ length first.now + length second.now) }
+    {
+        match self {
+            Outlet::Standard(stdout) if first.is_empty() => stdout.write(second),
+            Outlet::Standard(stdout) => stdout.write(first),
+            Outlet::Connection(stream) => {
+                stream.write_vectored(&[IoSlice::new(first), IoSlice::new(second)])
+            }
+        }
+    }
+
+    // How many bytes of both pieces joined were taken, at least one, or none at an error.
+    pub(crate) fn write_two_once(&mut self, first: &[u8], second: &[u8]) -> Option<usize>
+        ensures within { IfSome result (λ count. count ≤ length first.now + length second.now) }
+        ensures some { IfSome result (λ count. 0 < count) }
+    {
+        'trying: for _call in 0..u64::MAX {
+            match self.write_two(first, second) {
+                Ok(count) if count > 0 => return Some(count),
+                Err(error) if error.kind() == ErrorKind::Interrupted => {}
+                _ => return None,
+            }
+        }
+        None
+    }
+}
