@@ -36,8 +36,9 @@ impl Outlet {
         match self {
             Outlet::Standard(stdout) if first.is_empty() => stdout.write(second),
             Outlet::Standard(stdout) => stdout.write(first),
+            // By its path: the method of `Write` of this name, which calls the system twice, would come before it.
             Outlet::Connection(stream) => {
-                stream.write_vectored(&[IoSlice::new(first), IoSlice::new(second)])
+                TcpStream::write_vectored(stream, &[IoSlice::new(first), IoSlice::new(second)])
             }
         }
     }

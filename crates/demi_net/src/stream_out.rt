@@ -22,10 +22,7 @@ impl StreamOut {
         ensures written { ⟦<StreamOut as Sink>⟧.written result ≡ None }
         ensures faults { ⟦<StreamOut as Sink>⟧.faults result ≡ 0 }
     {
-        StreamOut {
-            outlet: Outlet::Standard(stdout),
-            faults: 0,
-        }
+        StreamOut::from_outlet(Outlet::Standard(stdout))
     }
 
     /// What goes over a connection. It took nothing yet.
@@ -33,10 +30,14 @@ impl StreamOut {
         ensures written { ⟦<StreamOut as Sink>⟧.written result ≡ None }
         ensures faults { ⟦<StreamOut as Sink>⟧.faults result ≡ 0 }
     {
-        StreamOut {
-            outlet: Outlet::Connection(stream),
-            faults: 0,
-        }
+        StreamOut::from_outlet(Outlet::Connection(stream))
+    }
+
+    // It took nothing yet.
+    fn from_outlet(outlet: Outlet) -> StreamOut
+        ensures { result.faults ≡ 0 }
+    {
+        StreamOut { outlet, faults: 0 }
     }
 
     // How many faults there were.

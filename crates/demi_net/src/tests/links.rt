@@ -45,14 +45,14 @@ fn answers<O: Sink>(sink: &mut O, client: u8) -> bool {
 
 // Whether each link is its own client's, the last one first. The world keeps all.
 fn serve<W: World>(world: &mut W, mut links: Vec<(W::In, W::Out)>) -> bool
-    requires { (number : ℕ) → number < vec_len links → IsTrue ((W.state world.old).owes_link number) }
+    requires few { vec_len links < 256 }
+    requires given { (number : ℕ) → number < vec_len links → IsTrue ((W.state world.old).owes_link number) }
 {
     let mut served = true;
     'serving: while let Some((mut source, mut sink)) = links.pop() {
-        let number = links.len() as u32;
-        let client = number as u8;
+        let client = links.len() as u8;
         served &= asks(&mut source, client) && answers(&mut sink, client);
-        world.keep_link(number, source, sink);
+        world.keep_link(u32::from(client), source, sink);
     }
     links.destroy_empty();
     served
