@@ -1,5 +1,4 @@
 -- The links of the real world.
-use Rattle.std.specs.Prelude.{ℕ}
 use Rattle.demi_core.specs.World.{Link}
 use Rattle.demi_net.specs.Real.{real_link}
 use Rattle.demi_net.specs.declared.stream_in.StreamIn.{StreamIn}

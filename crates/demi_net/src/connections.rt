@@ -18,8 +18,9 @@ fn listen(rt: &HostRuntime, address: &str) -> Option<TcpListener> {
     if is_standard(&listener) {
         return None;
     }
-    if rt.stderr().is_terminal() {
-        let address = listener.local_addr().ok()?;
+    if rt.stderr().is_terminal()
+        && let Ok(address) = listener.local_addr()
+    {
         let _ = eprintln!(rt; "demi: listening on {address}");
     }
     Some(listener)

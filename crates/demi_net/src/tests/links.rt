@@ -5,6 +5,7 @@ use super::clients::{converse, reply_to, requests_of};
 use crate::RealWorld;
 use demi_core::{Sink, Site, Source, World};
 use std::alloc::{AllocError, Global};
+use std::net::TcpListener;
 use std::test::Fail;
 use std::{process, thread};
 
@@ -72,5 +73,18 @@ fn each_client_reads_its_whole_reply(rt: HostRuntime) -> Result<(), Fail> {
     };
     assert!(rt; serve(&mut world, links));
     assert!(rt; matches!(clients.join(&rt), Ok(true)));
+    Ok(())
+}
+
+#[test]
+fn an_address_where_it_cannot_listen_is_refused(rt: HostRuntime) -> Result<(), Fail> {
+    let alloc = rt.alloc();
+    let taken = own_address(&rt, alloc)?;
+    let _listener = TcpListener::bind(&rt, taken.as_str())?;
+    let mut world = RealWorld::new(rt);
+    for address in ["", "127.0.0.1", taken.as_str()] {
+        let site = Site::Tcp(String::from_str(alloc, address)?);
+        assert!(rt; world.links(alloc, &site, 1).is_err(), "at {address}");
+    }
     Ok(())
 }
