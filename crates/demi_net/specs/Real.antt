@@ -1,11 +1,11 @@
 -- What the real world did, call by call, and what it thereby gave and keeps.
-use Rattle.std.specs.Prelude.{◌≡◌, ℕ, List, [], ◌∷◌, None, false, cond, ◌==◌, refl}
+use Rattle.std.specs.Prelude.{◌≡◌, ℕ, List, [], ◌∷◌, None, false, cond, ◌==◌, replicate, refl}
 use Rattle.std.specs.Coded.{Coded, code_by, coded×, coded_ℕ, coded_list}
 use Rattle.demi_core.specs.World.{Link, Log, WorldState, after_links, after_keep_link, after_log, after_keep_log, after_warn, after_say}
 
 -- a call that was answered, with the numbers of what it gave or took
 pub data Call : Type 0 where
-  link_given : Call
+  links_given : ℕ → Call
   link_kept : ℕ → ℕ → ℕ → ℕ → Call
   log_given : List ℕ → ℕ → Call
   log_kept : List ℕ → ℕ → ℕ → Call
@@ -32,7 +32,7 @@ state_after [] = record {
   owes_link = λ i. false;
   owes_log = λ name. false;
 }
-state_after (link_given ∷ past) = after_links (state_after past) (real_link 0 0 0 ∷ [])
+state_after (links_given count ∷ past) = after_links (state_after past) (replicate count (real_link 0 0 0))
 state_after (link_kept number taken read_faults write_faults ∷ past) = after_keep_link (state_after past) number (real_link taken read_faults write_faults)
 state_after (log_given name held ∷ past) = after_log (state_after past) name (real_log held 0)
 state_after (log_kept name held faults ∷ past) = after_keep_log (state_after past) name (real_log held faults)
@@ -44,7 +44,7 @@ abbrev Parts : Type 0
 Parts = ℕ × (List ℕ × (ℕ × (ℕ × (ℕ × ℕ))))
 
 abbrev to_parts : Call → Parts
-to_parts link_given = (0, ([], (0, (0, (0, 0)))))
+to_parts (links_given count) = (0, ([], (count, (0, (0, 0)))))
 to_parts (link_kept number taken read_faults write_faults) = (1, ([], (number, (taken, (read_faults, write_faults)))))
 to_parts (log_given name held) = (2, (name, (0, (held, (0, 0)))))
 to_parts (log_kept name held faults) = (3, (name, (0, (held, (faults, 0)))))
@@ -53,11 +53,11 @@ to_parts (text_said text) = (5, (text, (0, (0, (0, 0)))))
 
 abbrev from_parts : Parts → Call
 from_parts p =
-    cond (p.0 == 0) link_given (cond (p.0 == 1) (link_kept p.1.1.0 p.1.1.1.0 p.1.1.1.1.0 p.1.1.1.1.1) (cond (p.0 == 2) (log_given p.1.0 p.1.1.1.0)
+    cond (p.0 == 0) (links_given p.1.1.0) (cond (p.0 == 1) (link_kept p.1.1.0 p.1.1.1.0 p.1.1.1.1.0 p.1.1.1.1.1) (cond (p.0 == 2) (log_given p.1.0 p.1.1.1.0)
     (cond (p.0 == 3) (log_kept p.1.0 p.1.1.1.0 p.1.1.1.1.0) (cond (p.0 == 4) (text_warned p.1.0) (text_said p.1.0)))))
 
 pub from_parts-to_parts : (call : Call) → from_parts (to_parts call) ≡ call
-from_parts-to_parts link_given = refl
+from_parts-to_parts (links_given count) = refl
 from_parts-to_parts (link_kept number taken read_faults write_faults) = refl
 from_parts-to_parts (log_given name held) = refl
 from_parts-to_parts (log_kept name held faults) = refl

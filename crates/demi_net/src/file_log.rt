@@ -2,19 +2,16 @@ ghost use Rattle.std.specs.Prelude.{◌≡◌, ◌+◌, ◌≤◌, ◌^◌, None
 ghost use mathlib.Core.Path.{◌∙◌};
 
 use crate::once::{read_once_at, write_once_at};
+use crate::standard::is_standard;
 use demi_core::{Disk, Failed, Halt};
 use std::alloc::Global;
 use std::fs::{File, OpenOptions};
-use std::os::fd::AsRawFd;
 
 // How many bytes a disk holds at most.
 const MAX_HELD_BYTES: u64 = 1 << 40;
 
 // How many bytes one read takes at most: a largest entry of a log with its length, so that each value is one read.
 const READ_BYTES: usize = 65_802;
-
-// The descriptors below this one are those of the standard streams.
-const FIRST_FREE_DESCRIPTOR: i32 = 3;
 
 /// A file that is read at places, grows at its end and is cut there.
 ///
@@ -41,7 +38,7 @@ fn open_locked(rt: &HostRuntime, name: &str) -> Option<(File, u64)>
         return None;
     }
     let held_bytes = file.metadata().ok()?.len();
-    if held_bytes > MAX_HELD_BYTES || file.as_raw_fd() < FIRST_FREE_DESCRIPTOR {
+    if held_bytes > MAX_HELD_BYTES || is_standard(&file) {
         return None;
     }
     Some((file, held_bytes))

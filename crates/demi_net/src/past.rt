@@ -18,7 +18,7 @@ impl Model for Past {
 
 impl Past {
     ghost use Rattle.std.specs.Prelude.{[], ◌∷◌};
-    ghost use Rattle.demi_net.specs.Real.{link_given, link_kept, log_given, log_kept, text_said, text_warned};
+    ghost use Rattle.demi_net.specs.Real.{link_kept, links_given, log_given, log_kept, text_said, text_warned};
 
     // No call yet.
     pub(crate) fn new() -> Past
@@ -27,11 +27,11 @@ impl Past {
         Past::of()
     }
 
-    // A link was given, fresh.
-    pub(crate) fn link_given(&self) -> Past
-        ensures { result.calls ≡ link_given ∷ self.now.calls }
+    // So many links were given, all fresh.
+    pub(crate) fn links_given(&self, count: u32) -> Past
+        ensures { result.calls ≡ links_given count ∷ self.now.calls }
     {
-        Past::told(self, b"", 0, 0, 0, 0)
+        Past::told(self, b"", count as u64, 0, 0, 0)
     }
 
     // A link was kept under its number.

@@ -1,8 +1,12 @@
 ghost use Rattle.std.specs.Prelude.{◌≡◌, ◌+◌, ◌≤◌, ◌^◌, [], None, length, unwrap_or};
 
+use crate::draining::drain;
+use crate::inlet::Inlet;
 use crate::once::read_once;
 use demi_core::{Failed, Source};
 use std::io::Stdin;
+use std::net::TcpStream;
+use std::rt::Clock;
 
 // How many bytes a source gives at most.
 const MAX_GIVEN_BYTES: u64 = 1 << 34;
@@ -10,10 +14,10 @@ const MAX_GIVEN_BYTES: u64 = 1 << 34;
 // How many bytes one read takes at most.
 const READ_BYTES: usize = 8192;
 
-/// Standard input, as it was when the program began.
+/// Standard input, as it was when the program began, or what comes over a connection.
 #[derive(Drop)]
 pub struct StreamIn {
-    stdin: Stdin,
+    inlet: Inlet,
     given_bytes: u64,
     faults: u64,
     // Here a read of the system writes first: what it leaves of a room behind what it read is not promised.
@@ -28,8 +32,25 @@ impl StreamIn {
         ensures left { ⟦<StreamIn as Source>⟧.left result ≡ None }
         ensures faults { ⟦<StreamIn as Source>⟧.faults result ≡ 0 }
     {
+        StreamIn::from_inlet(Inlet::Standard(stdin))
+    }
+
+    /// What comes over a connection. It gave nothing yet. The end of its bytes is where the other side shut its writing.
+    pub fn from_connection(stream: TcpStream) -> StreamIn
+        ensures taken { ⟦<StreamIn as Source>⟧.taken result ≡ 0 }
+        ensures left { ⟦<StreamIn as Source>⟧.left result ≡ None }
+        ensures faults { ⟦<StreamIn as Source>⟧.faults result ≡ 0 }
+    {
+        StreamIn::from_inlet(Inlet::Connection(stream))
+    }
+
+    // It gave nothing yet.
+    fn from_inlet(inlet: Inlet) -> StreamIn
+        ensures taken { result.given_bytes ≡ 0 }
+        ensures faults { result.faults ≡ 0 }
+    {
         StreamIn {
-            stdin,
+            inlet,
             given_bytes: 0,
             faults: 0,
             piece: [0; READ_BYTES],
@@ -48,6 +69,13 @@ impl StreamIn {
         ensures { result ≡ self.now.faults }
     {
         self.faults
+    }
+
+    // Closes it: a connection once what still comes over it was dropped.
+    pub(crate) fn close<R: Clock>(self, rt: &R) {
+        if let Inlet::Connection(mut stream) = self.inlet {
+            drain(rt, &mut stream);
+        }
     }
 }
 
@@ -68,7 +96,7 @@ impl Source for StreamIn {
         let most = room.len().min(piece.len());
         if self.given_bytes < MAX_GIVEN_BYTES {
             let most = (MAX_GIVEN_BYTES - self.given_bytes).min(most as u64) as usize;
-            if let Some(count) = read_once(&mut self.stdin, &mut piece[..most]) {
+            if let Some(count) = read_once(&mut self.inlet, &mut piece[..most]) {
                 room[..count].copy_from_slice(&piece[..count]);
                 self.given_bytes += count as u64;
                 return Ok(count);

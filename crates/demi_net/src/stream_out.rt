@@ -1,13 +1,18 @@
-ghost use Rattle.std.specs.Prelude.{◌≡◌, None};
+ghost use Rattle.std.specs.Prelude.{◌≡◌, None, Some, IfOk};
+ghost use Rattle.demi_core.specs.Outside.{HasCause};
 
 use crate::once::write_once;
+use crate::outlet::Outlet;
 use demi_core::{Failed, Sink};
 use std::io::Stdout;
+use std::net::{Shutdown, TcpStream};
 
-/// Standard output.
+/// Standard output, or what goes over a connection.
+///
+/// A write to a connection whose other side is gone fails, and no signal ends the program.
 #[derive(Drop)]
 pub struct StreamOut {
-    stdout: Stdout,
+    outlet: Outlet,
     faults: u64,
 }
 
@@ -17,7 +22,22 @@ impl StreamOut {
         ensures written { ⟦<StreamOut as Sink>⟧.written result ≡ None }
         ensures faults { ⟦<StreamOut as Sink>⟧.faults result ≡ 0 }
     {
-        StreamOut { stdout, faults: 0 }
+        StreamOut::from_outlet(Outlet::Standard(stdout))
+    }
+
+    /// What goes over a connection. It took nothing yet.
+    pub fn from_connection(stream: TcpStream) -> StreamOut
+        ensures written { ⟦<StreamOut as Sink>⟧.written result ≡ None }
+        ensures faults { ⟦<StreamOut as Sink>⟧.faults result ≡ 0 }
+    {
+        StreamOut::from_outlet(Outlet::Connection(stream))
+    }
+
+    // It took nothing yet.
+    fn from_outlet(outlet: Outlet) -> StreamOut
+        ensures { result.faults ≡ 0 }
+    {
+        StreamOut { outlet, faults: 0 }
     }
 
     // How many faults there were.
@@ -25,6 +45,27 @@ impl StreamOut {
         ensures { result ≡ self.now.faults }
     {
         self.faults
+    }
+
+    // What a write took. One that failed is a fault.
+    fn counted(&mut self, taken: Option<usize>) -> Result<usize, Failed>
+        ensures taken { IfOk result (λ count. taken ≡ Some count) }
+        ensures cause { HasCause self.old.faults self.new.faults result }
+    {
+        match taken {
+            Some(count) => Ok(count),
+            None => {
+                self.faults = self.faults.saturating_add(1);
+                Err(Failed)
+            }
+        }
+    }
+
+    // Closes it: the other side of a connection is told that no more bytes come. Where that fails it is gone.
+    pub(crate) fn close(self) {
+        if let Outlet::Connection(stream) = self.outlet {
+            let _ = stream.shutdown(Shutdown::Write);
+        }
     }
 }
 
@@ -36,21 +77,12 @@ impl Sink for StreamOut {
     ghost told_bytes = { λ s. tt };
 
     fn write(&mut self, piece: &[u8]) -> Result<usize, Failed> {
-        match write_once(&mut self.stdout, piece) {
-            Some(count) => Ok(count),
-            None => {
-                self.faults = self.faults.saturating_add(1);
-                Err(Failed)
-            }
-        }
+        let taken = write_once(&mut self.outlet, piece);
+        self.counted(taken)
     }
 
-    // Of one piece alone: the toolchain has no single call of the system by which standard output takes two, and a copy
-    // of both into one buffer would be made again of what the system did not take.
     fn write_two(&mut self, first: &[u8], second: &[u8]) -> Result<usize, Failed> {
-        if first.is_empty() {
-            return self.write(second);
-        }
-        self.write(first)
+        let taken = self.outlet.write_two_once(first, second);
+        self.counted(taken)
     }
 }

@@ -1,4 +1,7 @@
 // A log over a real file: what no clause can say of it.
+mod clients;
+mod links;
+
 use crate::RealWorld;
 use demi_core::{Disk, World};
 use std::alloc::Global;

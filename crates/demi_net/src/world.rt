@@ -1,3 +1,8 @@
+ghost use Rattle.std.specs.Prelude.{◌≡◌, [], ◌∷◌, IfOk, map, vec_len};
+ghost use Rattle.demi_net.specs.Links.{link_of};
+ghost use Rattle.demi_net.specs.Real.{real_link};
+
+use crate::connections::connections;
 use crate::once::write_once;
 use crate::past::Past;
 use crate::{FileLog, StreamIn, StreamOut};
@@ -5,7 +10,8 @@ use demi_core::{Failed, Halt, Site, World};
 use std::alloc::Global;
 use std::io::Stdout;
 
-/// Standard input and output, standard error, and the files of the folder that the program runs in.
+/// Standard input and output, standard error, the connections that come in at an address, and the files of the folder that
+/// the program runs in.
 ///
 /// A link or a log that is kept is closed: nothing else holds it. Not said: what the outside holds.
 #[derive(Drop)]
@@ -28,8 +34,19 @@ fn print_whole(stdout: &mut Stdout, text: &[u8]) -> bool {
     true
 }
 
+// The link on standard input and output.
+fn standard_link(rt: &HostRuntime, alloc: Global) -> Result<Vec<(StreamIn, StreamOut)>, Halt>
+    ensures count { IfOk result (λ links. vec_len links ≡ 1) }
+    ensures fresh { IfOk result (λ links. map link_of links.items ≡ real_link 0 0 0 ∷ []) }
+{
+    let Ok(mut links) = Vec::with_capacity(alloc, 1) else {
+        return Err(Halt::NoMemory);
+    };
+    links.push_reserved((StreamIn::new(rt.stdin()), StreamOut::new(rt.stdout())));
+    Ok(links)
+}
+
 impl RealWorld {
-    ghost use Rattle.std.specs.Prelude.{◌≡◌, []};
     ghost use Rattle.demi_net.specs.Real.{state_after};
 
     /// The world that the program was started in. It gave nothing yet, and had no fault.
@@ -67,28 +84,33 @@ impl World for RealWorld {
 
     ghost kept_source = { λ w number source. Unit {0} };
 
-    /// One link on standard input and output. Connections are not offered yet: they give `Failed`.
+    /// One link on standard input and output; or the first `n` connections at an address, which is an IP address or a host's
+    /// name, and a port, in the order in which they came. It waits for them, and then listens no more. Small writes on a
+    /// connection are sent at once. Where standard error is a terminal, it is told there at which address it listens.
+    ///
+    /// `NoMemory`; or `Failed` where the address cannot be listened at, also because a standard stream is closed, and where the
+    /// system has no room for one more connection. A connection that is lost before it is taken is passed over, and the
+    /// next one is taken in its place; one that is lost later is a link whose ends fail.
     fn links(
         &mut self,
         alloc: Global,
         site: &Site,
         n: u32,
     ) -> Result<Vec<(StreamIn, StreamOut)>, Halt> {
-        if let Site::Tcp(_) = site {
-            self.faults = self.faults.saturating_add(1);
-            return Err(Halt::Failed);
-        }
-        let Ok(mut links) = Vec::with_capacity(alloc, 1) else {
-            return Err(Halt::NoMemory);
+        let links = match site {
+            Site::Standard => standard_link(&self.rt, alloc),
+            Site::Tcp(address) => connections(&self.rt, alloc, address.as_str(), n),
         };
-        links.push_reserved((
-            StreamIn::new(self.rt.stdin()),
-            StreamOut::new(self.rt.stdout()),
-        ));
-        self.past = self.past.link_given();
-        Ok(links)
+        match links {
+            Ok(_) => self.past = self.past.links_given(n),
+            Err(Halt::Failed) => self.faults = self.faults.saturating_add(1),
+            Err(Halt::NoMemory) => {}
+        }
+        links
     }
 
+    /// Closes the link. A connection is told that no more bytes come, and what still comes over it is dropped, for about two
+    /// seconds and a mebibyte at most: so it is not reset while replies are on their way.
     fn keep_link(&mut self, number: u32, source: StreamIn, sink: StreamOut) {
         self.past = self.past.link_kept(
             number,
@@ -96,6 +118,8 @@ impl World for RealWorld {
             source.faults(),
             sink.faults(),
         );
+        sink.close();
+        source.close(&self.rt);
     }
 
     /// The file of that name, made empty where there is none. A folder, a file that may not be read and written, a
