@@ -1,9 +1,9 @@
 -- Where a receiving port told an end, its outcomes have one.
-use Rattle.std.proofs.Common.{◌≡◌, ℕ, ◌+◌, ◌<◌, ◌⊎◌, Bool, true, false, List, [], ◌∷◌, ◌++◌, Some, None, Option, refl, arith, ◌∙◌, ap, sym, subst, cond, inl, inr}
+use Rattle.std.proofs.Common.{◌≡◌, ℕ, ◌⊎◌, Bool, true, false, List, [], ◌∷◌, ◌++◌, Some, None, Option, refl, ◌∙◌, ap, sym, subst, cond, inl, inr}
 use Rattle.std.specs.Prelude.{slice_get, take, ltb, length, ◌==◌}
 use Rattle.demi_device.specs.Serving.{first_stop, trail}
 use Rattle.demi_port_core.specs.Trails.{told_at as told_there}
-use Rattle.demi_streamq.specs.Receiving.{RxAdmits, RxAnswer, RxRead, at, bytes_before, is_stop, over, told, told_at}
+use Rattle.demi_streamq.specs.Receiving.{RxAdmits, RxAnswer, at, bytes_before, is_stop, over, told, told_at}
 use Rattle.demi_streamq.specs.RxKept.{HasEnd, IsEnd}
 use Rattle.demi_streamq.specs.declared.rx_op.RxOp.{RxOp}
 use Rattle.demi_streamq.specs.declared.rx_op.RxOp.TheVariants.{Pop, Stop}

@@ -1,13 +1,11 @@
 -- What the entries of a closed port say of the one pass that did something there.
-use Rattle.std.proofs.Common.{◌≡◌, ◌≢◌, ℕ, zero, suc, ◌+◌, ◌<◌, ◌≤◌, ◌⊎◌, Bool, true, false, List, [], ◌∷◌, ◌++◌, Some, None, Option, length, map, refl, arith, ◌∙◌, ap, sym, subst, cond, inl, inr, append_assoc}
+use Rattle.std.proofs.Common.{◌≡◌, ◌≢◌, ℕ, zero, suc, ◌+◌, ◌≤◌, ◌⊎◌, Bool, true, false, List, [], ◌∷◌, ◌++◌, Some, map, refl, arith, ◌∙◌, ap, sym, subst, cond, inl, inr, append_assoc}
 use Rattle.std.specs.Prelude.{slice_get, ◌==◌}
 use Rattle.std.specs.List.{AllByRecursion}
 use Rattle.std.proofs.lemmas.Bool.Decides.{nat_tests}
-use mathlib.Core.Option.{some}
-use lib.ListN.{get_elem?}
 use Rattle.demi_port.specs.Seen.{DeviceValue, EndValue, PassValue, PortId, known_at, known_by, says}
 use Rattle.demi_port_core.specs.History.{Among, AnyOf, Each, of_pass}
-use Rattle.demi_port_core.specs.Trails.{Behind, NoneBelow, StartsWith}
+use Rattle.demi_port_core.specs.Trails.{Behind, NoneBelow}
 use Rattle.demi_port_core.specs.declared.trail.Trail.{Trail}
 use Rattle.demi_link.specs.Fitting.{ops_of, places}
 use Rattle.demi_link.specs.Sights.{Side}

@@ -1,6 +1,6 @@
 -- What a session of any number of links and workers shows once its store's port is closed.
-use Rattle.std.proofs.Common.{◌≡◌, ◌⊎◌, ℕ, zero, suc, ◌+◌, ◌<◌, Bool, List, [], ◌∷◌, Some, length, map, refl, arith, ◌∙◌, ap, sym, subst, append-nil, inl, inr}
-use Rattle.std.specs.Prelude.{flat_map, slice_get}
+use Rattle.std.proofs.Common.{◌≡◌, ◌⊎◌, ℕ, ◌+◌, ◌<◌, List, [], ◌∷◌, Some, length, map, refl, arith, ◌∙◌, ap, sym, subst, append-nil, inl, inr}
+use Rattle.std.specs.Prelude.{slice_get}
 use Rattle.std.specs.List.{AllByRecursion, AllZip}
 use mathlib.Core.Option.{some}
 use lib.ListN.{get_elem?}
@@ -10,7 +10,6 @@ use Rattle.demi_port_core.specs.History.{Each, of_pass}
 use Rattle.demi_port_core.specs.Trails.{Behind}
 use Rattle.demi_port_core.specs.declared.trail.Trail.{Trail}
 use Rattle.demi_spec.specs.Record.{Record}
-use Rattle.demi_spec.specs.Reply.{spelling}
 use Rattle.demi_store.specs.Laws.{StoreBasis}
 use Rattle.demi_store.specs.declared.ask.StoreAsk.{StoreAsk}
 use Rattle.demi_store.specs.declared.told.StoreTold.{StoreTold}
@@ -26,7 +25,6 @@ use Rattle.demi_served.specs.Writing.{WroteAll}
 use Rattle.demi_link.specs.Ends.{IsDone}
 use Rattle.demi_link.specs.Fitting.{Keeps}
 use Rattle.demi_link.specs.Sights.{Side, side_of, worker_of}
-use Rattle.demi_link.specs.declared.phase.Cause.{Cause}
 use Rattle.demi_pdpix.specs.Lanes.{IsEndOf}
 use Rattle.demi_closed.specs.Closed.{Added}
 use Rattle.demi_closed.specs.ManyLinks.{AllResults, AllWereWritten, IsAnsweredInFull, IsForLinkOf, IsServedBy, IsWorkerOf, LinkEnd, WorkerEnd, session_of, worker_now, worker_then}

@@ -1,8 +1,7 @@
 -- What was written, and what was asked, where a read of a link that is over was due.
-use Rattle.std.proofs.Common.{◌≡◌, ℕ, zero, suc, ◌+◌, ◌<◌, ◌≤◌, ◌⊎◌, Bool, true, false, List, [], ◌∷◌, ◌++◌, Some, None, Option, length, map, refl, arith, ◌∙◌, ap, sym, subst, inl, inr, append_assoc, append-nil, length-append, take-append-drop, take-take, length-take-le}
+use Rattle.std.proofs.Common.{◌≡◌, ℕ, zero, suc, ◌+◌, ◌<◌, ◌≤◌, ◌⊎◌, Bool, true, false, List, [], ◌∷◌, ◌++◌, Some, Option, length, map, refl, arith, ◌∙◌, ap, sym, subst, inl, inr, append_assoc, append-nil, length-append, take-append-drop, take-take, length-take-le}
 use Rattle.std.specs.Prelude.{drop, flat_map, slice_get, take}
 use Rattle.std.specs.List.{AllByRecursion}
-use Rattle.std.proofs.lemmas.Bool.{cases_lt}
 use Rattle.std.proofs.lemmas.Grind.{flat_map-append}
 use Rattle.std.proofs.lemmas.List.{length-map, take-append-le, take-map}
 use Rattle.demi_core.specs.Outside.{bytes_given}
@@ -24,14 +23,11 @@ use Rattle.demi_served.specs.Writing.{WroteAll, texts_of}
 use Rattle.demi_spec.specs.Input.{Asked, Open, Parses, Request_of}
 use Rattle.demi_spec.specs.Record.{Record}
 use Rattle.demi_spec.specs.Reply.{Reply, spelling}
-use Rattle.demi_spec.specs.Request.{Request}
 use Rattle.demi_spec.specs.Store.{added, answer, serial, serial_from}
 use Rattle.demi_streamq.specs.RxKept.{all_bytes}
-use Rattle.demi_streamq.specs.Sending.{TxAdmits}
 use Rattle.demi_streamq.specs.declared.rx_out.RxOut.{RxOut}
 use Rattle.demi_streamq.specs.declared.tx_op.TxOp.{TxOp}
 use Rattle.demi_streamq.specs.declared.tx_op.TxOp.TheVariants.{Push, Close, Stop}
-use Rattle.demi_streamq.specs.declared.tx_out.TxOut.TheVariants.{Pushed}
 use Rattle.demi_closed.specs.Reading.{EachGaveSome, IsDueRead}
 
 -- the first replies of the one-thread store are those to the first requests

@@ -1,8 +1,7 @@
 -- Only due reads were made of the source of a link that was served, once its ports are closed.
-use Rattle.std.proofs.Common.{◌≡◌, ℕ, ◌+◌, ◌<◌, ◌≤◌, Bool, true, false, List, [], ◌∷◌, ◌++◌, Some, None, Option, length, map, refl, arith, ◌∙◌, ap, sym, subst, append-nil, length-append}
+use Rattle.std.proofs.Common.{◌≡◌, ℕ, ◌<◌, ◌≤◌, Bool, true, false, List, [], ◌∷◌, ◌++◌, Some, Option, length, map, refl, arith, ◌∙◌, ap, sym, subst, append-nil, length-append}
 use Rattle.std.specs.Prelude.{flat_map, slice_get, take}
 use Rattle.std.proofs.lemmas.List.{length-map, length-take-le, take_all}
-use Rattle.demi_core.specs.Outside.{bytes_given}
 use Rattle.demi_device.specs.Serving.{trail}
 use Rattle.demi_frame.specs.Decoding.{Decoding}
 use Rattle.demi_frame.specs.Reading.{HasRead}

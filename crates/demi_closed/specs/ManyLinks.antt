@@ -1,5 +1,5 @@
 -- What a session of any number of links and workers comes to.
-use Rattle.std.specs.Prelude.{◌≡◌, ◌⊎◌, ℕ, true, List, [], ◌∷◌, Some, flat_map, length, map, slice_get}
+use Rattle.std.specs.Prelude.{◌≡◌, ◌⊎◌, ℕ, true, List, [], ◌∷◌, Some, flat_map, length, slice_get}
 use Rattle.std.specs.List.{AllByRecursion, AllZip}
 use Rattle.demi_port.specs.Seen.{known_by}
 use Rattle.demi_spec.specs.Record.{Record}
@@ -11,7 +11,7 @@ use Rattle.demi_served.specs.Accounts.{Accounted, StoreEntry}
 use Rattle.demi_served.specs.Ends.{StorePass}
 use Rattle.demi_served.specs.Keeps.{Draw, Worker, WorkerKeeps}
 use Rattle.demi_served.specs.Links.{AllEnded, LinkPorts}
-use Rattle.demi_served.specs.Served.{Placed, Served, Whole}
+use Rattle.demi_served.specs.Served.{Served, Whole}
 use Rattle.demi_served.specs.Steps.{GoesBeside}
 use Rattle.demi_served.specs.Talks.{LinkRun, Run, Talk}
 use Rattle.demi_link.specs.Ends.{IsDone}

@@ -56,7 +56,9 @@ impl Outlet {
         ensures { IfOk result (λ count. count ≤ length first.now + length second.now) }
     {
         match self {
-            Outlet::Standard(stdout) if is_short(first, second) => write_joined(stdout, first, second),
+            Outlet::Standard(stdout) if is_short(first, second) => write_joined(
+                stdout, first, second,
+            ),
             Outlet::Standard(stdout) if first.is_empty() => stdout.write(second),
             Outlet::Standard(stdout) => stdout.write(first),
             // By its path: the method of `Write` of this name, which calls the system twice, would come before it.

@@ -1,4 +1,4 @@
-use Rattle.std.proofs.Common.{◌≡◌, List, length, map, refl, true}
+use Rattle.std.proofs.Common.{map, refl}
 use Rattle.demi_port.specs.Seen.{known_at}
 use Rattle.demi_closed.specs.ManyLinks.{session_of, worker_now}
 use Rattle.demi_closed.proofs.ManyCloses.{all_answered, all_ended, all_even, all_torn, all_whole, all_written_out, ends_all, kept_of}
