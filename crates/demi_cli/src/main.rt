@@ -2,7 +2,7 @@
 //!
 //! [`run`] is all that it does, over any world: what it promises are its clauses. Below it, `piping` serves a link in a session
 //! of `demi_server`, `tool` does what needs no link, as to list a log, and `reporting` gives each outcome its exit status
-//! and its text. The world that `main` makes is that of `demi_net`: standard input and output, and files.
+//! and its text. The world that `main` makes is that of `demi_net`: the standard streams, TCP connections, and files.
 //! Not promised: what a real stream or file holds, that memory is found, and that threads can be started.
 #![tactic(auto)]
 

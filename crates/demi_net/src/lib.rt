@@ -2,8 +2,8 @@
 //!
 //! [`RealWorld`] is what a program is started in. It gives its links as a [`StreamIn`] and a [`StreamOut`], over the standard
 //! streams or over a TCP connection, and its logs as a [`FileLog`] each; a program that needs no world makes these by itself.
-//! The layer above may rely on the clauses of the traits of the outside: each object raises its own count of faults at each error of
-//! a call to the system, and at no other place, and a call that the system interrupted is made again.
+//! The layer above may rely on the clauses of the traits of the outside: each object raises its own count of faults where a call to the
+//! system failed or it would pass its limit, and at no other place, and a call that the system interrupted is made again.
 //! Not promised: what a stream or a file holds. None of these tells its bytes.
 #![tactic(auto)]
 

@@ -47,7 +47,6 @@ fn standard_link(rt: &HostRuntime, alloc: Global) -> Result<Vec<(StreamIn, Strea
 }
 
 impl RealWorld {
-    ghost use Rattle.std.specs.Prelude.{◌≡◌, []};
     ghost use Rattle.demi_net.specs.Real.{state_after};
 
     /// The world that the program was started in. It gave nothing yet, and had no fault.
