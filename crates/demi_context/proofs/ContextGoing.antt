@@ -1,17 +1,15 @@
 -- A draw and an ask of one link leave what the other links have.
-use Rattle.std.proofs.Common.{◌≡◌, ◌≢◌, ℕ, ◌+◌, List, [], ◌∷◌, ◌++◌, Some, length, ap, sym, subst, ◌∙◌}
+use Rattle.std.proofs.Common.{◌≡◌, ℕ, ◌+◌, [], ◌∷◌, ◌++◌, Some, length, ap, sym, subst, ◌∙◌}
 use Rattle.demi_port_core.specs.declared.place.QToken.{QToken}
 use Rattle.demi_served.specs.Asking.{asks_for, ask_of}
-use Rattle.demi_served.specs.Keeps.{Draw, Worker, WorkerKeeps, numbered, of_link}
+use Rattle.demi_served.specs.Keeps.{Worker, WorkerKeeps, numbered, of_link}
 use Rattle.demi_served.specs.Steps.{GoesBeside, after_ask, after_draw}
 use Rattle.demi_served.proofs.Beside.{beside_asked, beside_drawn}
 use Rattle.demi_served.proofs.Stepping.{worker_asked, worker_drawn}
-use Rattle.demi_store.specs.declared.ask.StoreAsk.{StoreAsk}
 use Rattle.demi_store.specs.declared.op.StoreOp.{StoreOp}
-use Rattle.demi_store.specs.declared.told.StoreTold.{StoreTold}
-use Rattle.demi_link.specs.Sights.{Side, Submits, side_of, worker_of}
+use Rattle.demi_link.specs.Sights.{Submits, side_of, worker_of}
 use Rattle.demi_link.specs.Talks.{TalkValue}
-use Rattle.demi_context.specs.ContextLedgers.{Entry, LedgerValue, after_ask_of, after_draw_of, after_giving}
+use Rattle.demi_context.specs.ContextLedgers.{LedgerValue, after_ask_of, after_draw_of, after_giving}
 use Rattle.demi_context.specs.ContextPorts.{Caller, SameButStore, Whole}
 use Rattle.demi_context.specs.ContextSights.{ContextValue, Goes, sight_of}
 use Rattle.demi_context.proofs.ContextSteps.{noted_else}

@@ -1,6 +1,6 @@
 -- The ports of a link are its two sides.
-use Rattle.std.proofs.Common.{◌≡◌, ℕ, ◌+◌, ◌<◌, Bool, true, false, cond, length, ap, ◌∙◌, arith}
-use Rattle.std.specs.Prelude.{◌≤◌, ◌-◌, ◌*◌, ◌%◌, ◌/◌, ◌==◌, nat_lt}
+use Rattle.std.proofs.Common.{◌≡◌, ℕ, ◌<◌, Bool, false, cond, length, ap, ◌∙◌, arith}
+use Rattle.std.specs.Prelude.{◌≤◌, ◌-◌, ◌%◌, ◌/◌, ◌==◌}
 use Rattle.std.proofs.lemmas.Bool.{lt-ltb, ne_eqb}
 use Rattle.demi_pdpix.specs.Kinds.{kind_of, side_of}
 use Rattle.demi_pdpix.specs.declared.kind.PortKind.{PortKind}

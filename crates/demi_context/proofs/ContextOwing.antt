@@ -1,12 +1,11 @@
 -- What the calls of a caller do to what is outstanding of it.
-use Rattle.std.proofs.Common.{◌≡◌, ℕ, ◌+◌, ◌<◌, Bool, true, false, cond, List, length, get_or, refl, ap, sym, subst, ◌∙◌, inl, inr, arith}
-use Rattle.demi_heap.specs.Seen.{PassValue as HeapPassValue}
+use Rattle.std.proofs.Common.{◌≡◌, ℕ, ◌+◌, Bool, true, false, cond, List, length, get_or, refl, ap, sym, subst, ◌∙◌, inl, inr, arith}
 use Rattle.demi_port.specs.Seen.{Found, PassValue}
 use Rattle.demi_pdpix.specs.Answers.{SawUnknown}
 use Rattle.demi_pdpix.specs.Asks.{Asked}
 use Rattle.demi_pdpix.specs.Calls.{Changed, FindsNone, OnHeap, OnRx, OnService, OnTx, SubmittedAt, Submits}
 use Rattle.demi_pdpix.specs.Notes.{Scanned, ScannedAt}
-use Rattle.demi_pdpix.specs.Owing.{IsDue, IsDueAt, one_more_at, same_kind}
+use Rattle.demi_pdpix.specs.Owing.{IsDue, IsDueAt, same_kind}
 use Rattle.demi_pdpix.specs.declared.kind.PortKind.{PortKind}
 use Rattle.demi_pdpix.specs.declared.kind.PortKind.TheVariants.{Memory, Service, Journal, Receiving, Sending, Nowhere}
 use Rattle.demi_pdpix.proofs.Outstanding.{asks_due, changed_due, changed_first, none_due_at, submits_due}

@@ -1,11 +1,10 @@
 -- What the calls of a caller do to what its links see of its passes.
-use Rattle.std.proofs.Common.{◌≡◌, ◌≢◌, ℕ, Bool, zero, suc, ◌+◌, ◌<◌, List, [], ◌∷◌, ◌++◌, Option, Some, None, length, get_or, set, refl, ap, sym, subst, ◌∙◌, arith}
+use Rattle.std.proofs.Common.{◌≡◌, ◌≢◌, ℕ, Bool, zero, suc, ◌<◌, List, [], ◌∷◌, ◌++◌, Option, Some, None, length, get_or, set, refl, ap, sym, subst, ◌∙◌, arith}
 use Rattle.std.specs.Prelude.{slice_get}
 use mathlib.Core.Option.{some}
 use lib.ListN.{get_elem?}
-use Rattle.demi_port.specs.Seen.{Found, OnlyLooked, PassValue, known_by}
+use Rattle.demi_port.specs.Seen.{Found, OnlyLooked, PassValue}
 use Rattle.demi_port_core.specs.History.{Among}
-use Rattle.demi_port_core.specs.declared.trail.Trail.{Trail}
 use Rattle.demi_pdpix.specs.Answers.{Redeemed}
 use Rattle.demi_pdpix.specs.Calls.{Changed, SubmittedAt}
 use Rattle.demi_pdpix.specs.Notes.{Scanned}

@@ -1,5 +1,5 @@
 -- What a submission tells of the link whose port it is.
-use Rattle.std.proofs.Common.{◌≡◌, ℕ, Bool, true, false, cond, zero, replicate, arith, ◌<◌, List, [], ◌∷◌, length, refl, ap, sym, subst, ◌∙◌, suc}
+use Rattle.std.proofs.Common.{◌≡◌, ℕ, Bool, true, false, cond, replicate, arith, ◌<◌, List, [], ◌∷◌, length, refl, ap, sym, subst, suc}
 use Rattle.std.specs.Prelude.{◌-◌, ◌%◌, ◌/◌, ◌==◌, nat_lt}
 use Rattle.std.proofs.lemmas.Bool.{ltb-true}
 use Rattle.demi_heap.specs.Seen.{HalfValue}

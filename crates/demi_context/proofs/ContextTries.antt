@@ -1,10 +1,9 @@
 -- What a try of a token tells of the link whose port it is.
-use Rattle.std.proofs.Common.{◌≡◌, ◌≢◌, ℕ, ◌<◌, List, length, refl, ap, sym, subst, inl, inr}
+use Rattle.std.proofs.Common.{◌≡◌, ℕ, ◌<◌, length, ap, inl, inr}
 use Rattle.demi_heap.specs.Seen.{HeapId}
 use Rattle.demi_port.specs.Seen.{PassValue}
 use Rattle.demi_port.specs.declared.redeem.Redeem.{Redeem}
 use Rattle.demi_port.specs.declared.redeem.Redeem.TheVariants.{Ready as Come, NotYet as Busy, Spent as Over, Unknown as NoSuch}
-use Rattle.demi_port_core.specs.declared.place.Place.{Place}
 use Rattle.demi_pdpix.specs.Answers.{IsRx, IsService, IsTx, Redeemed, SawBusy, SawSpent, SawUnknown, rx_answer, service_answer, tx_answer}
 use Rattle.demi_pdpix.specs.Calls.{Changed, OnRx, OnService, OnTx}
 use Rattle.demi_pdpix.specs.Seen.{RxPass, TxPass}
@@ -12,7 +11,6 @@ use Rattle.demi_pdpix.specs.Tries.{TriedAt, TriedRx, TriedTx}
 use Rattle.demi_pdpix.specs.declared.kind.PortKind.TheVariants.{Receiving, Sending, Service as ServicePort}
 use Rattle.demi_pdpix.specs.declared.outcomes.Answer.{Answer}
 use Rattle.demi_pdpix.specs.declared.outcomes.Answer.TheVariants.{NotYet, Ready, Spent, Unknown}
-use Rattle.demi_pdpix.specs.declared.outcomes.QResult.{QResult}
 use Rattle.demi_pdpix.specs.declared.outcomes.QResult.TheVariants.{Log, Mem, Rx, Service, Tx}
 use Rattle.demi_pdpix.proofs.Outstanding.{redeems_due}
 use Rattle.demi_store.specs.Laws.{Admits, StoreBasis}

@@ -1,7 +1,6 @@
 -- What links see of their worker's caller, and what calls do to what is outstanding of it.
 use Rattle.std.specs.Prelude.{◌≡◌, ◌≢◌, ℕ, zero, suc, ◌+◌, ◌*◌, false, cond, List, [], ◌∷◌}
 use Rattle.demi_port.specs.Seen.{PassValue}
-use Rattle.demi_port_core.specs.Trails.{Behind}
 use Rattle.demi_pdpix.specs.Owing.{IsDueAt, one_more_at, same_kind}
 use Rattle.demi_pdpix.specs.Seen.{CallerValue, DemiId}
 use Rattle.demi_pdpix.specs.declared.kind.PortKind.{PortKind}

@@ -1,4 +1,4 @@
-use Rattle.std.proofs.Common.{refl, subst, sym, ◌∙◌}
+use Rattle.std.proofs.Common.{refl, subst, sym}
 use Rattle.demi_pdpix.specs.Seen.{IsOf}
 use Rattle.demi_pdpix.specs.declared.kind.PortKind.TheVariants.{Service}
 use Rattle.demi_context.specs.Halting.{HasLooked}

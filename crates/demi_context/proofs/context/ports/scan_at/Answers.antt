@@ -1,4 +1,3 @@
-use Rattle.std.proofs.Common.{subst, sym}
 use Rattle.demi_pdpix.specs.Kinds.{kind_of}
 use Rattle.demi_context.proofs.ContextOwing.{scanned_owes}
 use Rattle.demi_context.proofs.ContextSubmits.{long_of, scanned_same, scanned_within}
