@@ -127,8 +127,7 @@ hears text output old new from size at l h is fits none count more =
 pub follows_more : (text : List ℕ) (heard more : List HeardReply) (links : List LinkHeard) (all : List Heard) (l : LinkHeard) (h : Heard) → Follows text heard links all → l.count ≡ length more
     → replies_by text more ≡ h.talk.replies → l.more ≡ nat_lt 0 (length h.rest) → Follows text (heard ++ more) (links ++ l ∷ []) (all ++ h ∷ [])
 follows_more text heard more [] [] l h f count said rest =
-    let e : heard ++ more ≡ more = ap (λ (x : List HeardReply). x ++ more) f in
-    (
+    let e : heard ++ more ≡ more = ap (λ (x : List HeardReply). x ++ more) f in (
       ap (λ (x : List HeardReply). replies_by text (take l.count x)) e ∙ ap (replies_by text) (take_all l.count more (omega arith)) ∙ said,
       omega (arith, count, ap length e),
       rest,

@@ -1,17 +1,22 @@
-//! The auditor's tools: random inputs, and what a session is that was served whole.
+//! The auditor's tools: random inputs, and whether a session was served whole.
 //!
 //! [`generate`] makes the inputs of links from a number. They are exactly what the definitions in `specs/` say.
-//! [`the_verdict_is_whole`] is a law of the auditor's rules, which `specs/` lists as a function that names the first fault
-//! of a session: it names none exactly where the session was whole. Nothing here starts a thread, and every call returns.
-//! Inside the crate, `transcript` reads the text of a session, or names the first byte of the first field that is bad.
-//! Not there: a call that looks for the faults of a session that was read. Not promised: anything about time.
+//! [`check`] reads the transcript of a session and says whether one store explains it, or else its first fault, as the
+//! auditor's rules in `specs/` name it. [`the_verdict_is_whole`] is their law: they name no fault exactly where the session
+//! was whole. Nothing here starts a thread, and every call returns.
+//! Inside, `transcript` and `entries` read the text, `hearing` and `ask` what was replied and asked; `places`, `ahead` and
+//! `turns` judge the sequence numbers of workers, `past`, `book` and `replying` the answers by the records of the log,
+//! `falling` the versions along a link; `judging`, `each_link` and `each_record` put these together in order.
+//! Not promised: anything about time.
 #![tactic(auto)]
 
-mod dealing;
 mod ahead;
 mod ask;
 mod book;
 mod checking;
+#[cfg(test)]
+mod checking_tests;
+mod dealing;
 mod draws;
 mod each_link;
 mod each_record;
