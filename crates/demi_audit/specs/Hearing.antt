@@ -1,5 +1,5 @@
 -- What was heard of a link, and what it stands for.
-use Rattle.std.specs.Prelude.{◌≡◌, ◌+◌, ◌≤◌, ℕ, Bool, nat_lt, List, [], ◌∷◌, ◌++◌, length, map, flat_map, take, drop}
+use Rattle.std.specs.Prelude.{◌≡◌, ◌+◌, ◌≤◌, ℕ, nat_lt, List, [], ◌∷◌, ◌++◌, length, map, flat_map, take, drop}
 use Rattle.std.specs.List.{AllByRecursion}
 use Rattle.demi_spec.specs.Reply as spoken
 use Rattle.demi_spec.specs.Reply.{Answer, Reply, IsReply}

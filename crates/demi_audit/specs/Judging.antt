@@ -1,5 +1,5 @@
 -- What is looked at to judge the replies of a transcript.
-use Rattle.std.specs.Prelude.{◌≡◌, ℕ, ◌<◌, false, List, length, take, get_or}
+use Rattle.std.specs.Prelude.{◌≡◌, ℕ, ◌<◌, false, length, take, get_or}
 use Rattle.std.specs.List.{AllByRecursion}
 use Rattle.demi_served.specs.Talks.{Run}
 use Rattle.demi_audit.specs.Book.{IsBook}

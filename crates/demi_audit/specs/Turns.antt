@@ -1,5 +1,5 @@
 -- Whether the sequence number of a reply is right.
-use Rattle.std.specs.Prelude.{◌≡◌, ◌≢◌, ℕ, zero, suc, ◌+◌, ◌<◌, ◌≤◌, ◌^◌, Bool, true, false, not, ◌&&◌, ◌==◌, nat_lt, nat_le, max, if◌then◌else◌, List, [], ◌∷◌, length, take, map, sum, get_or, count_by, Option, Some, None}
+use Rattle.std.specs.Prelude.{◌≡◌, ℕ, zero, suc, ◌+◌, ◌<◌, ◌≤◌, ◌^◌, Bool, false, not, ◌&&◌, ◌==◌, nat_lt, nat_le, max, if◌then◌else◌, List, [], ◌∷◌, length, take, sum, get_or, count_by}
 use Rattle.std.specs.List.{list_any}
 use Rattle.demi_spec.specs.Reply.{Reply}
 use Rattle.demi_served.specs.Served.{same_worker}

@@ -1,4 +1,4 @@
-use Rattle.std.proofs.Common.{◌+◌, List, take, arith, sym, ◌∙◌, subst}
+use Rattle.std.proofs.Common.{List, take, arith, sym, ◌∙◌, subst}
 use Rattle.std.proofs.lemmas.List.{take_all, take_more}
 use Rattle.demi_audit.specs.Checking.{MarksStored}
 use Rattle.demi_audit.specs.Hearing.{replies_by}
