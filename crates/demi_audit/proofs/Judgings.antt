@@ -13,7 +13,7 @@ use Rattle.demi_audit.specs.declared.heard.HeardReply.{HeardReply}
 use Rattle.demi_audit.specs.Asking.{asks, rest_of}
 use Rattle.demi_audit.specs.Falling.{greatest_of, later_of}
 use Rattle.demi_audit.specs.Hearing.{replies_by, reply_by}
-use Rattle.demi_audit.specs.Judging.{no_reply}
+use Rattle.demi_audit.specs.Hearing.{no_reply}
 use Rattle.demi_audit.specs.Turns.{is_in_turn}
 use Rattle.demi_audit.specs.Verdict.{Around, answers, falls, is_right, link_fault, next_to}
 use Rattle.demi_audit.proofs.Falls.{greatest_push}

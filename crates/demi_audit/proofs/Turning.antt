@@ -15,7 +15,7 @@ use Rattle.demi_audit.specs.declared.heard.AnswerKind.TheVariants as kind
 use Rattle.demi_audit.specs.declared.heard.HeardReply.{HeardReply}
 use Rattle.demi_audit.specs.declared.places.Places.{Places}
 use Rattle.demi_audit.specs.Hearing.{answer_by, height, reply_by, replies_by}
-use Rattle.demi_audit.specs.Turns.{IsPlacing, IsTable, count_of, greatest_at, greatest_below, has_place, height_at, is_in_turn, is_late, is_number, most_before, place_at, turn_of, was_given}
+use Rattle.demi_audit.specs.Turns.{IsPlacing, IsTable, count_of, greatest_at, greatest_below, HasPlace, height_at, is_in_turn, is_late, is_number, most_before, place_at, turn_of, was_given}
 use Rattle.demi_audit.proofs.Placing.{written}
 use Rattle.demi_audit.proofs.Raising.{not_number, its_number}
 
@@ -146,7 +146,7 @@ turn_as text heard before r =
     (λ i. nat_lt 0 r.sequence && (nat_le r.sequence (a i) && (not (b i) && not (c i))))
 
 -- one more number is marked
-pub marked : (p : Places) (heard before : List HeardReply) (table : List Bool) (r : HeardReply) (at : ℕ) → IsPlacing p heard → has_place p r.worker r.sequence → at ≡ place_at p r.worker r.sequence → at < length table
+pub marked : (p : Places) (heard before : List HeardReply) (table : List Bool) (r : HeardReply) (at : ℕ) → IsPlacing p heard → HasPlace p r.worker r.sequence → at ≡ place_at p r.worker r.sequence → at < length table
     → IsTable p (was_given before) table → IsTable p (was_given (before ++ r ∷ [])) (set table at true)
 marked p heard before table r at h there is within tabled =
     subst (λ (j : ℕ). IsTable p (was_given (before ++ r ∷ [])) (set table j true)) (sym is)

@@ -3,7 +3,7 @@ use Rattle.std.proofs.lemmas.List.{get_or_read}
 use Rattle.demi_served.specs.Answers.{version_of}
 use Rattle.demi_audit.specs.Falling.{later_of}
 use Rattle.demi_audit.specs.Hearing.{replies_by, reply_by}
-use Rattle.demi_audit.specs.Judging.{no_reply}
+use Rattle.demi_audit.specs.Hearing.{no_reply}
 use Rattle.demi_audit.specs.declared.heard.HeardReply.{HeardReply}
 use Rattle.demi_audit.proofs.Judgings.{JudgesOn, judged_more, judged_surplus, judged_wrong, judges_more}
 use Rattle.demi_audit.proofs.judging.judge_link.Goals as goal

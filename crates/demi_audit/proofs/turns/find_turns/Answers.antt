@@ -2,7 +2,7 @@ use Rattle.std.proofs.Common.{◌≡◌, ◌+◌, ◌<◌, Bool, List, length, t
 use Rattle.std.proofs.lemmas.List.{take_more}
 use Rattle.demi_audit.specs.Turns.{IsTable, greatest_below, turn_of, was_given}
 use Rattle.demi_audit.specs.declared.heard.HeardReply.{HeardReply}
-use Rattle.demi_audit.proofs.Placing.{no_reply}
+use Rattle.demi_audit.specs.Hearing.{no_reply}
 use Rattle.demi_audit.proofs.Turning.{TurnsTo, turn_as, turn_more}
 use Rattle.demi_audit.proofs.turns.find_turns.Goals as goal
 
