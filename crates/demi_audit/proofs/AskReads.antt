@@ -1,6 +1,5 @@
 -- What stands at the front of an input is asked first.
-use Rattle.std.proofs.Common.{◌≡◌, ℕ, ◌+◌, ◌≤◌, ◌<◌, Bool, false, true, List, [], ◌∷◌, ◌++◌, length, take, drop, Option, None, Some, refl, arith, ◌∙◌, ap, sym, subst, cond, nat_lt, length-drop}
-use Rattle.std.specs.Prelude.{◌==◌}
+use Rattle.std.proofs.Common.{◌≡◌, ℕ, ◌+◌, ◌≤◌, ◌<◌, true, List, [], ◌∷◌, length, take, drop, None, Some, refl, arith, ◌∙◌, ap, sym, subst, length-drop}
 use Rattle.std.proofs.lemmas.Bool.Decides.{nat_tests}
 use Rattle.std.proofs.lemmas.List.{nil_from_length}
 use Rattle.demi_spec.specs.Request as request
@@ -10,7 +9,6 @@ use Rattle.demi_spec.proofs.Fronts.{Allowed, put, get, stop, allowed, front_take
 use Rattle.demi_spec.proofs.Parsing.{asked_is, parse_on}
 use Rattle.demi_frame.proofs.Fronts.{at_head}
 use Rattle.demi_audit.specs.declared.ask.Ask.{Ask}
-use Rattle.demi_audit.specs.declared.ask.Ask.TheVariants as ask
 use Rattle.demi_audit.specs.Asking.{ask_by, asks, rest_of, size_of}
 
 -- nothing is asked by nothing

@@ -1,10 +1,10 @@
 -- The records of a log, one by one.
-use Rattle.std.proofs.Common.{◌≡◌, ℕ, zero, suc, ◌+◌, ◌-◌, ◌≤◌, ◌<◌, Bool, true, false, List, [], ◌∷◌, ◌++◌, length, take, drop, get_or, map, Option, None, Some, refl, ap, sym, ◌∙◌, subst, arith, inl, inr, ◌⊎◌}
+use Rattle.std.proofs.Common.{◌≡◌, ℕ, zero, suc, ◌+◌, ◌-◌, ◌<◌, List, [], ◌∷◌, length, take, drop, get_or, map, Option, None, Some, refl, ap, sym, ◌∙◌, arith, inl, inr}
 use Rattle.std.specs.Prelude.{IsSome, option_map, slice_get}
 use Rattle.std.specs.List.{AllByRecursion}
-use Rattle.std.proofs.lemmas.List.{take_all, take_more, drop-drop}
-use Rattle.demi_spec.specs.LogText.{log_text, IsPayload}
-use Rattle.demi_spec.specs.Record.{Record, IsRecord, IsRecordLog, log_of, payload, record_of}
+use Rattle.std.proofs.lemmas.List.{take_all, drop-drop}
+use Rattle.demi_spec.specs.LogText.{log_text}
+use Rattle.demi_spec.specs.Record.{Record, IsRecord, IsRecordLog, payload, record_of}
 use Rattle.demi_spec.proofs.Payloads.{all_fit, record_again}
 use Rattle.demi_logq.specs.Logged.{Holds, end_of}
 use Rattle.demi_audit.specs.declared.entries.Parts.{Parts}

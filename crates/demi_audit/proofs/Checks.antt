@@ -1,12 +1,11 @@
 -- What a check found is the first fault of the session.
 use Rattle.std.proofs.Common.{◌≡◌, ℕ, ◌+◌, ◌-◌, List, [], ◌∷◌, ◌++◌, length, take, drop, map, flat_map, Option, Some, None, refl, ap, sym, ◌∙◌, subst, arith, append_assoc}
 use Rattle.std.specs.Prelude.{Result, Ok, Err, IfErr, IfOk, IsOk}
-use Rattle.std.specs.List.{AllByRecursion, AllZip}
+use Rattle.std.specs.List.{AllByRecursion}
 use Rattle.std.proofs.lemmas.List.{length-map}
-use Rattle.demi_spec.specs.Input.{Asked}
 use Rattle.demi_spec.specs.Record.{Record}
 use Rattle.demi_spec.specs.Reply.{Reply, IsReply, spelling}
-use Rattle.demi_served.specs.Talks.{LinkRun, Run, Talk}
+use Rattle.demi_served.specs.Talks.{LinkRun, Run}
 use Rattle.demi_served.specs.Served.{Whole}
 use Rattle.demi_audit.specs.declared.heard.HeardReply.{HeardReply}
 use Rattle.demi_audit.specs.declared.hearing.LinkHeard.{LinkHeard}

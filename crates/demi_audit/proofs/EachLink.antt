@@ -1,9 +1,8 @@
 -- All links, judged one after another.
-use Rattle.std.proofs.Common.{◌≡◌, ℕ, zero, suc, ◌+◌, ◌-◌, ◌≤◌, ◌<◌, Bool, false, true, List, [], ◌∷◌, ◌++◌, length, take, drop, get_or, map, flat_map, Option, Some, None, refl, ap, sym, ◌∙◌, subst, arith, length-drop}
+use Rattle.std.proofs.Common.{◌≡◌, ℕ, suc, ◌+◌, ◌-◌, ◌≤◌, ◌<◌, false, true, List, [], ◌∷◌, ◌++◌, length, take, drop, get_or, map, Option, refl, ap, sym, ◌∙◌, subst, arith, length-drop}
 use Rattle.std.specs.Prelude.{nat_lt}
-use Rattle.std.specs.List.{AllZip}
 use Rattle.std.proofs.Math.Seq.{take-add}
-use Rattle.std.proofs.lemmas.List.{drop_more, drop_all, drop-drop, map-append, take-append-drop, length-map}
+use Rattle.std.proofs.lemmas.List.{drop_more, drop-drop, map-append, take-append-drop, length-map}
 use Rattle.demi_spec.specs.Input.{asked}
 use Rattle.demi_spec.specs.Reply.{Reply}
 use Rattle.demi_served.specs.Talks.{LinkRun, Run}
@@ -13,7 +12,7 @@ use Rattle.demi_audit.specs.declared.transcript.LinkPlaces.{LinkPlaces}
 use Rattle.demi_audit.specs.Hearing.{Follows, replies_by, reply_by}
 use Rattle.demi_audit.specs.Reading.{link_by}
 use Rattle.demi_audit.specs.Transcript.{part}
-use Rattle.demi_audit.specs.Verdict.{Fault, ReplyAt, Heard, HeardAll, HeardOf, at_link, link_fault, links_fault, said}
+use Rattle.demi_audit.specs.Verdict.{Fault, Heard, HeardAll, at_link, link_fault, links_fault, said}
 use Rattle.demi_audit.proofs.Hearings.{no_places}
 
 -- all replies that were heard

@@ -3,8 +3,8 @@ use Rattle.std.proofs.Common.{◌≡◌, ℕ, ◌+◌, ◌≤◌, Bool, true, fa
 use Rattle.std.specs.Prelude.{Result, Ok, Err, bytes_eq, nat_le}
 use Rattle.std.proofs.lemmas.Bool.Decides.{nat_tests}
 use Rattle.demi_spec.specs.Record.{Record, records}
-use Rattle.demi_served.specs.Talks.{LinkRun, Run}
-use Rattle.demi_audit.specs.Transcript.{mark, has, has_number, has_part, number_4, number_8, part, log_records, are_within, behind_log, links_from, run_of, transcript}
+use Rattle.demi_served.specs.Talks.{LinkRun}
+use Rattle.demi_audit.specs.Transcript.{mark, has, has_number, number_4, number_8, part, log_records, are_within, behind_log, links_from, run_of, transcript}
 
 both : (a b : Bool) → a ≡ true → b ≡ true → (a && b) ≡ true
 both true b p q = q

@@ -1,6 +1,6 @@
 -- The entries of a log text in memory, found from the front on.
 use Rattle.std.proofs.Common.{◌≡◌, ℕ, ◌+◌, ◌-◌, ◌≤◌, ◌<◌, min, true, false, List, [], ◌∷◌, ◌++◌, length, take, drop, Some, refl, ap, sym, ◌∙◌, arith, length-drop, inl, inr, ◌⊎◌}
-use Rattle.std.specs.Prelude.{Ok, Err, Result, bytes_eq}
+use Rattle.std.specs.Prelude.{Err, Result, bytes_eq}
 use Rattle.std.specs.Int.{w32, to_be_bytes, from_be_bytes}
 use Rattle.std.proofs.lemmas.List.{append-nil, length-take, take_all, take-take}
 use Rattle.std.proofs.lemmas.Slice.Eq.{bytes_eq-Decides}

@@ -1,26 +1,23 @@
 -- Replies that are heard one after another.
-use Rattle.std.proofs.Common.{◌≡◌, ℕ, zero, suc, ◌+◌, ◌-◌, ◌≤◌, ◌<◌, Bool, false, true, List, [], ◌∷◌, ◌++◌, length, take, drop, get_or, map, flat_map, refl, arith, ◌∙◌, ap, sym, subst, append_assoc, length-append, length-drop, nat_lt, inl, inr, ◌⊎◌}
-use Rattle.std.specs.Prelude.{Result, Ok, Err, IfErr, slice_index}
-use Rattle.std.specs.List.{AllByRecursion, AllZip}
-use Rattle.std.proofs.Math.Seq.{drop-append_seam, take-append_seam}
+use Rattle.std.proofs.Common.{◌≡◌, ℕ, ◌+◌, ◌-◌, ◌≤◌, ◌<◌, false, true, List, [], ◌∷◌, ◌++◌, length, take, drop, get_or, map, flat_map, refl, arith, ◌∙◌, ap, sym, subst, append_assoc, length-append, length-drop, nat_lt, inl, inr, ◌⊎◌}
+use Rattle.std.specs.List.{AllByRecursion}
+use Rattle.std.proofs.Math.Seq.{drop-append_seam}
 use Rattle.std.proofs.lemmas.Bool.{cases_lt, lt-ltb, le-ltb}
-use Rattle.std.proofs.lemmas.List.{append-nil, map-append, take-append-le, drop-append-le, take_all, drop_all, drop-drop, drop-take, take-take, length-take, length-map, take_more, take_rest}
+use Rattle.std.proofs.lemmas.List.{append-nil, map-append, take-append-le, drop-append-le, take_all, drop_all, drop-drop, drop-take, take-take, length-take, take_more, take_rest}
 use Rattle.demi_spec.specs.Input.{asked}
 use Rattle.demi_spec.specs.Reply as spoken
 use Rattle.demi_spec.specs.Reply.{Answer, Reply, IsReply, spelling}
 use Rattle.demi_spec.proofs.ReplyReads.{replies_apart}
-use Rattle.demi_frame.specs.ReadBack.{ReadsBack, BeginsReply, IsNoReply, kind_of, version_in, bytes_in}
+use Rattle.demi_frame.specs.ReadBack.{ReadsBack, BeginsReply, bytes_in}
 use Rattle.demi_frame.specs.declared.reply.Reply.{Reply as Said}
 use Rattle.demi_served.specs.Talks.{LinkRun}
-use Rattle.demi_audit.specs.declared.heard.AnswerKind.{AnswerKind}
-use Rattle.demi_audit.specs.declared.heard.AnswerKind.TheVariants as kind
 use Rattle.demi_audit.specs.declared.heard.HeardReply.{HeardReply}
 use Rattle.demi_audit.specs.declared.hearing.LinkHeard.{LinkHeard}
 use Rattle.demi_audit.specs.declared.transcript.LinkPlaces.{LinkPlaces}
 use Rattle.demi_audit.specs.Reading.{link_by}
 use Rattle.demi_audit.specs.Transcript.{part}
 use Rattle.demi_audit.specs.Verdict.{Heard, HeardAll, HeardOf, NoReply}
-use Rattle.demi_audit.specs.Hearing.{Follows, Hears, StandsIn, answer_by, replies_by, reply_by}
+use Rattle.demi_audit.specs.Hearing.{Follows, Hears, StandsIn, replies_by, reply_by}
 
 -- a text that begins a reply, and has not all of it, has none at its front
 pub begun_none : (text : List ℕ) → BeginsReply text → NoReply text
@@ -127,8 +124,7 @@ hears text output old new from size at l h is fits none count more =
 pub follows_more : (text : List ℕ) (heard more : List HeardReply) (links : List LinkHeard) (all : List Heard) (l : LinkHeard) (h : Heard) → Follows text heard links all → l.count ≡ length more
     → replies_by text more ≡ h.talk.replies → l.more ≡ nat_lt 0 (length h.rest) → Follows text (heard ++ more) (links ++ l ∷ []) (all ++ h ∷ [])
 follows_more text heard more [] [] l h f count said rest =
-    let e : heard ++ more ≡ more = ap (λ (x : List HeardReply). x ++ more) f in
-    (
+    let e : heard ++ more ≡ more = ap (λ (x : List HeardReply). x ++ more) f in (
       ap (λ (x : List HeardReply). replies_by text (take l.count x)) e ∙ ap (replies_by text) (take_all l.count more (omega arith)) ∙ said,
       omega (arith, count, ap length e),
       rest,

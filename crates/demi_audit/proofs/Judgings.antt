@@ -1,19 +1,19 @@
 -- The replies of a link, judged one after another.
-use Rattle.std.proofs.Common.{◌≡◌, ℕ, zero, suc, ◌+◌, ◌-◌, ◌≤◌, ◌<◌, Bool, true, false, not, List, [], ◌∷◌, ◌++◌, length, take, drop, get_or, map, Option, Some, None, refl, ap, sym, ◌∙◌, subst, arith, length-drop}
+use Rattle.std.proofs.Common.{◌≡◌, ℕ, zero, suc, ◌+◌, ◌-◌, ◌≤◌, ◌<◌, Bool, true, false, not, List, [], ◌∷◌, ◌++◌, length, take, drop, get_or, map, Option, Some, None, refl, ap, sym, ◌∙◌, arith, length-drop}
 use Rattle.std.specs.Prelude.{◌&&◌, nat_lt}
 use Rattle.std.specs.List.{AllByRecursion, list_any}
 use Rattle.std.proofs.lemmas.Bool.{lt-ltb}
 use Rattle.std.proofs.lemmas.List.{drop_more, drop_all, take_more, length-map, length-take, map-append, get_or-take, get_or-drop}
 use Rattle.demi_spec.specs.Input.{Asked, asked}
-use Rattle.demi_spec.specs.Reply.{Answer, Reply}
+use Rattle.demi_spec.specs.Reply.{Reply}
 use Rattle.demi_served.specs.Talks.{Run}
 use Rattle.demi_served.specs.Answers.{version_of}
 use Rattle.demi_audit.specs.declared.ask.Ask.{Ask}
 use Rattle.demi_audit.specs.declared.heard.HeardReply.{HeardReply}
 use Rattle.demi_audit.specs.Asking.{asks, rest_of}
 use Rattle.demi_audit.specs.Falling.{greatest_of, later_of}
-use Rattle.demi_audit.specs.Hearing.{StandsIn, replies_by, reply_by}
-use Rattle.demi_audit.specs.Judging.{no_reply}
+use Rattle.demi_audit.specs.Hearing.{replies_by, reply_by}
+use Rattle.demi_audit.specs.Hearing.{no_reply}
 use Rattle.demi_audit.specs.Turns.{is_in_turn}
 use Rattle.demi_audit.specs.Verdict.{Around, answers, falls, is_right, link_fault, next_to}
 use Rattle.demi_audit.proofs.Falls.{greatest_push}

@@ -1,20 +1,18 @@
 -- Records of a log text that is in memory.
-use Rattle.std.proofs.Common.{◌≡◌, ℕ, zero, suc, ◌+◌, ◌-◌, ◌≤◌, ◌<◌, List, [], ◌∷◌, ◌++◌, length, take, drop, get_or, map, Option, None, Some, refl, ap, sym, ◌∙◌, subst, arith, append_assoc, length-append, length-drop, inl, inr, ◌⊎◌}
-use Rattle.std.specs.Prelude.{Result, Ok, Err, Bool, true, false, ◌==◌, is_some, not, option_map, slice_index}
+use Rattle.std.proofs.Common.{◌≡◌, ℕ, zero, suc, ◌+◌, ◌-◌, ◌≤◌, ◌<◌, List, [], ◌∷◌, ◌++◌, length, take, drop, get_or, map, Option, None, Some, refl, ap, sym, ◌∙◌, subst, arith, inl, inr}
+use Rattle.std.specs.Prelude.{Ok, Err, Bool, true, false, ◌==◌, is_some, not, option_map}
 use Rattle.std.proofs.lemmas.Bool.Decides.{nat_tests}
 use Rattle.std.specs.List.{AllByRecursion}
-use Rattle.std.proofs.lemmas.List.{length-map, map-append, nil_from_length, take_all, length-take, take-append-drop, take_more, drop-drop}
-use Rattle.std.proofs.Math.Seq.{take-append_seam, drop-append_seam}
+use Rattle.std.proofs.lemmas.List.{length-map, map-append, nil_from_length, take_all, length-take, take-append-drop, take_more}
 use Rattle.demi_spec.specs.Request.{IsBytes}
-use Rattle.demi_spec.specs.LogText.{header, entry, log_text, IsPayload, entries}
-use Rattle.demi_spec.specs.Record.{Record, IsRecord, IsRecordLog, BadRecord, record_of, records, payload, log_of}
+use Rattle.demi_spec.specs.LogText.{log_text, IsPayload, entries}
+use Rattle.demi_spec.specs.Record.{Record, IsRecord, BadRecord, record_of, records, payload, log_of}
 use Rattle.demi_spec.proofs.LogReads.{drop_bytes, take_bytes}
-use Rattle.demi_spec.proofs.Payloads.{all_fit, records_again}
-use Rattle.demi_spec.proofs.RecordReads.{record_here, none_is, records_refuse, records_are}
+use Rattle.demi_spec.proofs.Payloads.{records_again}
+use Rattle.demi_spec.proofs.RecordReads.{record_here, none_is, records_refuse}
 use Rattle.demi_logq.specs.Logged.{Found, Holds, ends_from, end_of, place_of}
 use Rattle.demi_logq.proofs.Entry.{length-ends, payload_there}
-use Rattle.demi_logq.proofs.Holding.{At, entry_at}
-use Rattle.demi_logq.proofs.Places.{fits_more}
+use Rattle.demi_logq.proofs.Holding.{entry_at}
 use Rattle.demi_audit.specs.declared.entries.Parts.{Parts}
 use Rattle.demi_audit.specs.Entries.{Logs, ReadTo, record_by}
 

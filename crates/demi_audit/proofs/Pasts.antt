@@ -1,11 +1,11 @@
 -- From a record back to those before it with its key.
-use Rattle.std.proofs.Common.{◌≡◌, ◌≢◌, ℕ, zero, suc, ◌+◌, ◌-◌, ◌≤◌, ◌<◌, Bool, true, false, cond, List, [], ◌∷◌, ◌++◌, length, take, get_or, Option, Some, None, refl, ap, sym, ◌∙◌, subst, arith, inl, inr, ◌⊎◌, length-append, Global}
+use Rattle.std.proofs.Common.{◌≡◌, ℕ, zero, suc, ◌+◌, ◌≤◌, ◌<◌, Bool, true, false, cond, List, [], ◌∷◌, ◌++◌, length, take, get_or, Option, Some, None, refl, ap, sym, ◌∙◌, subst, arith, inl, inr, ◌⊎◌, length-append, Global}
 use Rattle.std.specs.Prelude.{bytes_eq, unwrap_or}
 use Rattle.std.specs.HashMap.{HashMap, get_by, UpdatesBy}
 use Rattle.std.specs.declared.vec.Vec.{Vec}
 use Rattle.std.proofs.lemmas.Bool.{cases_eq, cases_lt}
 use Rattle.std.proofs.lemmas.Slice.Eq.{bytes_eq-Decides}
-use Rattle.std.proofs.lemmas.List.{take_more, get_or_append_left, get_or_push, get_or_default, get_or_past, length_push}
+use Rattle.std.proofs.lemmas.List.{take_more, get_or_append_left, get_or_push, length_push}
 use Rattle.demi_spec.specs.Record.{Record}
 use Rattle.demi_spec.specs.Store as store
 use Rattle.demi_spec.specs.Store.{unless_later}
@@ -212,8 +212,7 @@ pub walk_jump : (p : Past) (rs : List Record) (key : List ℕ) (version at : ℕ
 walk_jump p rs key version at s h more is w low =
     let there : at ≤ length rs = w.there in
     let b : IsBack rs at s.jump = subst (λ (x : BackStep). IsBack rs at x.jump) (sym is) (h.jump at s there) in
-    let back : s.jump ≤ at = b.within in
-    (
+    let back : s.jump ≤ at = b.within in (
       record { there = omega arith; has = λ some. b.same some ∙ w.has (omega arith); none = λ k less most same. absurd (omega arith) },
       subst (λ (x : BackStep). x.jump < at) (sym is) (h.shorter at s (omega arith) there),
     )
@@ -227,8 +226,7 @@ walk_back p rs key version (suc at) s h more is w =
     let here : s ≡ get_or p.steps.items (at + 1) s = is ∙ ap (λ (n : ℕ). get_or p.steps.items n s) e in
     let same : (record_at rs (at + 1)).key ≡ key = ap (λ (n : ℕ). (record_at rs n).key) (sym e) ∙ w.has (omega arith) in
     let l : IsLatest rs key at s.previous = subst (λ (x : BackStep). IsLatest rs key at x.previous) (sym here) (subst (λ (x : List ℕ). IsLatest rs x at (get_or p.steps.items (at + 1) s).previous) same (h.previous at s (omega arith))) in
-    let low : s.previous ≤ at = l.within in
-    (
+    let low : s.previous ≤ at = l.within in (
       record { there = omega arith; has = l.has; none = λ k less most at_k. l.none k less (omega arith) at_k },
       omega arith,
     )

@@ -1,22 +1,17 @@
 -- Places in a table by worker and sequence number.
-use Rattle.std.proofs.Common.{◌≡◌, ◌≢◌, ℕ, zero, suc, ◌+◌, ◌-◌, ◌≤◌, ◌<◌, ◌^◌, Bool, true, false, cond, List, [], ◌∷◌, ◌++◌, length, take, drop, get_or, set, refl, ap, sym, ◌∙◌, subst, arith, inl, inr, ◌⊎◌}
-use Rattle.std.specs.Prelude.{◌==◌, sum, count_by}
-use Rattle.std.proofs.lemmas.Bool.{cases_eq, cases_lt, cases_order}
+use Rattle.std.proofs.Common.{◌≡◌, ℕ, zero, suc, ◌+◌, ◌≤◌, ◌<◌, Bool, true, false, cond, List, length, take, get_or, set, ap, sym, ◌∙◌, arith, inl, inr, ◌⊎◌}
+use Rattle.std.specs.Prelude.{◌==◌, sum}
+use Rattle.std.proofs.lemmas.Bool.{cases_eq, cases_order}
 use Rattle.std.proofs.lemmas.Bool.Decides.{nat_tests}
-use Rattle.std.proofs.lemmas.List.{get_or-set_same, get_or-set_other, length-set, take_all}
-use Rattle.std.proofs.lemmas.List.Sums.{sum_by_more, sum_by-set, get_or-le-sum_by, sum_by-take-le}
+use Rattle.std.proofs.lemmas.List.{get_or-set_same, get_or-set_other, length-set}
+use Rattle.std.proofs.lemmas.List.Sums.{sum_by_more, sum_by-set, sum_by-take-le}
 use Rattle.demi_audit.specs.declared.heard.HeardReply.{HeardReply}
-use Rattle.demi_audit.specs.declared.heard.AnswerKind.TheVariants.{Stored}
 use Rattle.demi_audit.specs.declared.places.Places.{Places}
-use Rattle.demi_audit.specs.Turns.{AreStarts, IsPlacing, IsTable, count_of, has_place, place_at}
+use Rattle.demi_audit.specs.Turns.{IsPlacing, IsTable, count_of, HasPlace, place_at}
 
 -- one where a test holds
 abbrev one_if : Bool → ℕ
 one_if b = cond b 1 0
-
--- a reply that stands where a list has none
-abbrev pub no_reply : HeardReply
-no_reply = record { worker = 0; sequence = 0; kind = Stored; version = 0; from = 0; length = 0 }
 
 -- what was counted, and one reply more
 pub record Counted (counts : List ℕ) (heard : List HeardReply) (n : ℕ) : Type 0 where
@@ -66,13 +61,13 @@ below_next counts w (suc v) less within = go (λ (k : w < v). below_next counts 
     go on (inl same) = let a : sum (take w counts) ≡ sum (take v counts) = ap (λ (n : ℕ). sum (take n counts)) same in let b : get_or counts w 0 ≡ get_or counts v 0 = ap (λ (n : ℕ). get_or counts n 0) same in omega (arith, a, b, step, next)
     go on (inr other) = let a = on (omega arith) in omega (arith, a, step, next)
 
-pub place_before : (p : Places) (heard : List HeardReply) → IsPlacing p heard → (w v s t : ℕ) → has_place p w s → has_place p v t → w < v → place_at p w s < place_at p v t
+pub place_before : (p : Places) (heard : List HeardReply) → IsPlacing p heard → (w v s t : ℕ) → HasPlace p w s → HasPlace p v t → w < v → place_at p w s < place_at p v t
 place_before p heard h w v s t there that less =
     let a = below_next p.counts.items w v less (omega (arith, h.workers, that.0)) in
     omega (arith, a, h.starts w (omega (arith, h.starts_count, there.0)), h.starts v (omega (arith, h.starts_count, that.0)), there.1)
 
 -- two workers or two numbers have two places
-pub one_place : (p : Places) (heard : List HeardReply) → IsPlacing p heard → (w v s t : ℕ) → has_place p w s → has_place p v t → place_at p w s ≡ place_at p v t → (w ≡ v) × (s ≡ t)
+pub one_place : (p : Places) (heard : List HeardReply) → IsPlacing p heard → (w v s t : ℕ) → HasPlace p w s → HasPlace p v t → place_at p w s ≡ place_at p v t → (w ≡ v) × (s ≡ t)
 one_place p heard h w v s t there that is = go (cases_order w v)
   where
     go : (w ≡ v) ⊎ ((w < v) ⊎ (v < w)) → (w ≡ v) × (s ≡ t)
@@ -87,11 +82,11 @@ places_end p heard h w small =
     let m : sum (take (w + 1) p.counts.items) ≤ sum p.counts.items = sum_by-take-le (λ (x : ℕ). x) p.counts.items (w + 1) in
     omega (arith, e, m, h.total, h.starts w (omega (arith, h.starts_count)))
 
-pub place_within : (p : Places) (heard : List HeardReply) → IsPlacing p heard → (w s : ℕ) → has_place p w s → place_at p w s < length heard + 256
+pub place_within : (p : Places) (heard : List HeardReply) → IsPlacing p heard → (w s : ℕ) → HasPlace p w s → place_at p w s < length heard + 256
 place_within p heard h w s there = let k = places_end p heard h w there.0 in omega (arith, k, there.1)
 
 -- a table after a write at one place, where what it has to say has changed there alone
-pub written : {X : Type 0} (p : Places) (heard : List HeardReply) (f g : ℕ → ℕ → X) (table : List X) (w s : ℕ) (x : X) → IsPlacing p heard → has_place p w s → place_at p w s < length table
+pub written : {X : Type 0} (p : Places) (heard : List HeardReply) (f g : ℕ → ℕ → X) (table : List X) (w s : ℕ) (x : X) → IsPlacing p heard → HasPlace p w s → place_at p w s < length table
     → IsTable p f table → x ≡ g w s → ((v t : ℕ) → ((v ≡ w) × (t ≡ s) → ⊥) → f v t ≡ g v t) → IsTable p g (set table (place_at p w s) x)
 written {X} p heard f g table w s x h there within tabled here others v t d that = go (cases_eq (place_at p v t) (place_at p w s))
   where

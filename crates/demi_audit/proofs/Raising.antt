@@ -1,14 +1,14 @@
 -- The greatest version by worker and number, and below a number.
-use Rattle.std.proofs.Common.{◌≡◌, ◌≢◌, ℕ, zero, suc, ◌+◌, ◌-◌, ◌≤◌, ◌<◌, ◌^◌, Bool, true, false, cond, List, [], ◌∷◌, ◌++◌, length, take, drop, get_or, set, refl, ap, sym, ◌∙◌, subst, arith, inl, inr, ◌⊎◌}
+use Rattle.std.proofs.Common.{◌≡◌, ◌≢◌, ℕ, zero, suc, ◌+◌, ◌≤◌, ◌<◌, Bool, true, false, cond, List, ◌++◌, length, take, drop, get_or, set, refl, ap, sym, ◌∙◌, subst, arith, inl, inr, ◌⊎◌}
 use Rattle.std.specs.Prelude.{◌==◌, max, ◌&&◌}
-use Rattle.std.proofs.lemmas.Bool.{cases_eq, cases_lt, cases_order}
+use Rattle.std.proofs.lemmas.Bool.{cases_eq}
 use Rattle.std.proofs.lemmas.Bool.Decides.{nat_tests}
 use Rattle.std.proofs.lemmas.List.{get_or-set_same, get_or-set_other, take_more, take_all, drop_all, append-nil}
 use Rattle.std.proofs.lemmas.List.Recursion.{max_push}
 use Rattle.demi_audit.specs.declared.heard.HeardReply.{HeardReply}
 use Rattle.demi_audit.specs.declared.places.Places.{Places}
 use Rattle.demi_audit.specs.Hearing.{height}
-use Rattle.demi_audit.specs.Turns.{IsPlacing, IsTable, greatest_at, height_at, is_number, has_place, most_before, place_at}
+use Rattle.demi_audit.specs.Turns.{IsPlacing, IsTable, greatest_at, height_at, is_number, HasPlace, most_before, place_at}
 use Rattle.demi_audit.proofs.Placing.{place_before, written}
 
 -- the greatest of one more
@@ -39,7 +39,7 @@ stays_below w s heard n d less other =
 
 -- a table of the greatest versions, and one reply more that has a place
 pub table_more : (p : Places) (heard : List HeardReply) (table : List ℕ) (n at old : ℕ) (d : HeardReply) → IsPlacing p heard → n < length heard → length table ≡ length heard + 256 → at < length heard + 256
-    → at ≡ place_at p (get_or heard n d).worker (get_or heard n d).sequence → has_place p (get_or heard n d).worker (get_or heard n d).sequence → old ≡ get_or table at 0
+    → at ≡ place_at p (get_or heard n d).worker (get_or heard n d).sequence → HasPlace p (get_or heard n d).worker (get_or heard n d).sequence → old ≡ get_or table at 0
     → IsTable p (λ w s. greatest_at w s (take n heard)) table
     → IsTable p (λ w s. greatest_at w s (take (n + 1) heard)) (set table at (max old (height (get_or heard n d).kind (get_or heard n d).version)))
 table_more p heard table n at old d h less long within is there was tabled =
@@ -95,8 +95,8 @@ raised_more old new from k most r within =
 
 -- the places of the workers before one are raised, and those of the others stand as they were
 pub record RaisedBefore (p : Places) (f : ℕ → ℕ → ℕ) (table : List ℕ) (n : ℕ) : Type 0 where
-  pub done : (w s d : ℕ) → has_place p w s → w < n → get_or table (place_at p w s) d ≡ most_before (f w) s
-  pub rest : (w s d : ℕ) → has_place p w s → n ≤ w → get_or table (place_at p w s) d ≡ f w s
+  pub done : (w s d : ℕ) → HasPlace p w s → w < n → get_or table (place_at p w s) d ≡ most_before (f w) s
+  pub rest : (w s d : ℕ) → HasPlace p w s → n ≤ w → get_or table (place_at p w s) d ≡ f w s
 
 pub worker_more : (p : Places) (heard : List HeardReply) (f : ℕ → ℕ → ℕ) (old new : List ℕ) (n from count : ℕ) → IsPlacing p heard → n < 256 → from ≡ get_or p.starts.items n 0 → count ≡ get_or p.counts.items n 0 + 1
     → ((k d : ℕ) → k < count → get_or new (from + k) d ≡ most_before (λ j. get_or old (from + j) 0) k)
@@ -108,10 +108,10 @@ worker_more p heard f old new n from count h small start size raised others r =
       rest = λ w s d there more. others (place_at p w s) d (inr (behind w s there more)) ∙ r.rest w s d there (omega arith);
     }
   where
-    behind : (w s : ℕ) → has_place p w s → n + 1 ≤ w → from + count ≤ place_at p w s
+    behind : (w s : ℕ) → HasPlace p w s → n + 1 ≤ w → from + count ≤ place_at p w s
     behind w s there more = let k = place_before p heard h n w (get_or p.counts.items n 0) s (small, omega arith) there (omega arith) in omega (arith, k, start, size)
 
-    done : (w s d : ℕ) → has_place p w s → w < n + 1 → (w ≡ n) ⊎ (w ≡ n → ⊥) → get_or new (place_at p w s) d ≡ most_before (f w) s
+    done : (w s d : ℕ) → HasPlace p w s → w < n + 1 → (w ≡ n) ⊎ (w ≡ n → ⊥) → get_or new (place_at p w s) d ≡ most_before (f w) s
     done w s d there less (inl same) =
         let c : get_or p.counts.items w 0 ≡ get_or p.counts.items n 0 = ap (λ (j : ℕ). get_or p.counts.items j 0) same in
         let b : get_or p.starts.items w 0 ≡ get_or p.starts.items n 0 = ap (λ (j : ℕ). get_or p.starts.items j 0) same in

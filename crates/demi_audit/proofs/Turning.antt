@@ -1,12 +1,12 @@
 -- The auditor's rules on numbers, by tables.
-use Rattle.std.proofs.Common.{◌≡◌, ◌≢◌, ℕ, zero, suc, ◌+◌, ◌-◌, ◌≤◌, ◌<◌, Bool, true, false, not, cond, List, [], ◌∷◌, ◌++◌, length, take, drop, get_or, set, map, refl, ap, sym, ◌∙◌, subst, arith, inl, inr, ◌⊎◌, Option, Some, None}
+use Rattle.std.proofs.Common.{◌≡◌, ℕ, zero, suc, ◌+◌, ◌≤◌, ◌<◌, Bool, true, false, not, cond, List, [], ◌∷◌, ◌++◌, length, take, drop, get_or, set, map, refl, ap, sym, ◌∙◌, subst, arith, inl, inr, ◌⊎◌, Option, Some, None}
 use Rattle.std.specs.Prelude.{◌==◌, ◌&&◌, ◌||◌, max, nat_lt, nat_le, count_by}
 use Rattle.std.specs.List.{list_any}
 use Rattle.std.proofs.lemmas.Bool.{cases_eq, cases_lt, cases_order, lt-ltb, le-ltb, or_right}
 use Rattle.std.proofs.lemmas.Bool.Decides.{nat_tests}
 use Rattle.std.proofs.lemmas.List.{length_push, get_or_push, get_or_default, get_or_append_left}
 use Rattle.std.proofs.lemmas.List.Folds.{fold-map, list_any-append}
-use Rattle.demi_spec.specs.Reply.{Answer, Reply}
+use Rattle.demi_spec.specs.Reply.{Reply}
 use Rattle.demi_served.specs.Answers.{version_of}
 use Rattle.demi_served.specs.Served.{same_worker}
 use Rattle.demi_audit.specs.Verdict.{falls_by, lags, repeats}
@@ -15,7 +15,7 @@ use Rattle.demi_audit.specs.declared.heard.AnswerKind.TheVariants as kind
 use Rattle.demi_audit.specs.declared.heard.HeardReply.{HeardReply}
 use Rattle.demi_audit.specs.declared.places.Places.{Places}
 use Rattle.demi_audit.specs.Hearing.{answer_by, height, reply_by, replies_by}
-use Rattle.demi_audit.specs.Turns.{IsPlacing, IsTable, count_of, greatest_at, greatest_below, has_place, height_at, is_in_turn, is_late, is_number, most_before, place_at, turn_of, was_given}
+use Rattle.demi_audit.specs.Turns.{IsPlacing, IsTable, count_of, greatest_at, greatest_below, HasPlace, height_at, is_in_turn, is_late, is_number, most_before, place_at, turn_of, was_given}
 use Rattle.demi_audit.proofs.Placing.{written}
 use Rattle.demi_audit.proofs.Raising.{not_number, its_number}
 
@@ -146,7 +146,7 @@ turn_as text heard before r =
     (λ i. nat_lt 0 r.sequence && (nat_le r.sequence (a i) && (not (b i) && not (c i))))
 
 -- one more number is marked
-pub marked : (p : Places) (heard before : List HeardReply) (table : List Bool) (r : HeardReply) (at : ℕ) → IsPlacing p heard → has_place p r.worker r.sequence → at ≡ place_at p r.worker r.sequence → at < length table
+pub marked : (p : Places) (heard before : List HeardReply) (table : List Bool) (r : HeardReply) (at : ℕ) → IsPlacing p heard → HasPlace p r.worker r.sequence → at ≡ place_at p r.worker r.sequence → at < length table
     → IsTable p (was_given before) table → IsTable p (was_given (before ++ r ∷ [])) (set table at true)
 marked p heard before table r at h there is within tabled =
     subst (λ (j : ℕ). IsTable p (was_given (before ++ r ∷ [])) (set table j true)) (sym is)

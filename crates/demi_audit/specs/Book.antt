@@ -1,5 +1,5 @@
 -- The log of a transcript, as it is looked at.
-use Rattle.std.specs.Prelude.{◌≡◌, ℕ, List, Option, option_map}
+use Rattle.std.specs.Prelude.{◌≡◌}
 use Rattle.demi_spec.specs.Record.{Record}
 use Rattle.demi_served.specs.Talks.{Run}
 use Rattle.demi_audit.specs.declared.book.Book.{Book}

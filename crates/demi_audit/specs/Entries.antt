@@ -1,5 +1,5 @@
 -- How the log part of a text is found and looked at in memory.
-use Rattle.std.specs.Prelude.{◌≡◌, ℕ, ◌+◌, List, [], map, take, drop}
+use Rattle.std.specs.Prelude.{◌≡◌, ℕ, ◌+◌, List, map, take, drop}
 use Rattle.std.specs.List.{AllByRecursion}
 use Rattle.demi_spec.specs.Record.{Record, IsRecord, IsRecordLog, payload}
 use Rattle.demi_logq.specs.Logged.{ends_from}

@@ -1,5 +1,5 @@
 -- What was heard of a link, and what it stands for.
-use Rattle.std.specs.Prelude.{◌≡◌, ◌+◌, ◌≤◌, ℕ, Bool, nat_lt, List, [], ◌∷◌, ◌++◌, length, map, flat_map, take, drop}
+use Rattle.std.specs.Prelude.{◌≡◌, ◌+◌, ◌≤◌, ℕ, nat_lt, List, [], ◌∷◌, ◌++◌, length, map, flat_map, take, drop}
 use Rattle.std.specs.List.{AllByRecursion}
 use Rattle.demi_spec.specs.Reply as spoken
 use Rattle.demi_spec.specs.Reply.{Answer, Reply, IsReply}
@@ -25,6 +25,10 @@ reply_by text r = record { worker = r.worker; sequence = r.sequence; answer = an
 
 abbrev pub replies_by : List ℕ → List HeardReply → List Reply
 replies_by text heard = map (reply_by text) heard
+
+-- what stands where there is no reply
+abbrev pub no_reply : HeardReply
+no_reply = record { worker = 0; sequence = 0; kind = kind.Stored; version = 0; from = 0; length = 0 }
 
 -- the version that an answer of this kind names, or 0
 abbrev pub height : AnswerKind → ℕ → ℕ

@@ -1,17 +1,12 @@
 -- What is looked at to judge the replies of a transcript.
-use Rattle.std.specs.Prelude.{◌≡◌, ℕ, ◌<◌, false, List, length, take, get_or}
+use Rattle.std.specs.Prelude.{◌≡◌, ℕ, ◌<◌, false, length, take, get_or}
 use Rattle.std.specs.List.{AllByRecursion}
 use Rattle.demi_served.specs.Talks.{Run}
 use Rattle.demi_audit.specs.Book.{IsBook}
 use Rattle.demi_audit.specs.Hearing.{StandsIn, replies_by, reply_by}
 use Rattle.demi_audit.specs.Turns.{is_in_turn}
-use Rattle.demi_audit.specs.declared.heard.AnswerKind.TheVariants.{Stored}
 use Rattle.demi_audit.specs.declared.heard.HeardReply.{HeardReply}
 use Rattle.demi_audit.specs.declared.judging.Case.{Case}
-
--- what stands where there is no reply
-abbrev pub no_reply : HeardReply
-no_reply = record { worker = 0; sequence = 0; kind = Stored; version = 0; from = 0; length = 0 }
 
 -- It is that of a session: its log, and the replies that were heard of it.
 pub record IsCase (c : Case) (run : Run) : Type 0 where

@@ -1,5 +1,5 @@
 -- The records of a log by their keys, and back from each to those before it with its key.
-use Rattle.std.specs.Prelude.{◌≡◌, ℕ, ◌+◌, ◌-◌, ◌<◌, ◌≤◌, List, [], ◌∷◌, length, get_or, unwrap_or, bytes_eq}
+use Rattle.std.specs.Prelude.{◌≡◌, ℕ, ◌+◌, ◌<◌, ◌≤◌, List, [], ◌∷◌, length, get_or, unwrap_or, bytes_eq}
 use Rattle.std.specs.HashMap.{get_by}
 use Rattle.demi_spec.specs.Record.{Record}
 use Rattle.demi_audit.specs.declared.past.BackStep.{BackStep}

@@ -1,5 +1,5 @@
 -- Whether the sequence number of a reply is right.
-use Rattle.std.specs.Prelude.{◌≡◌, ◌≢◌, ℕ, zero, suc, ◌+◌, ◌<◌, ◌≤◌, ◌^◌, Bool, true, false, not, ◌&&◌, ◌==◌, nat_lt, nat_le, max, if◌then◌else◌, List, [], ◌∷◌, length, take, map, sum, get_or, count_by, Option, Some, None}
+use Rattle.std.specs.Prelude.{◌≡◌, ℕ, zero, suc, ◌+◌, ◌<◌, ◌≤◌, ◌^◌, Bool, false, not, ◌&&◌, ◌==◌, nat_lt, nat_le, max, if◌then◌else◌, List, [], ◌∷◌, length, take, sum, get_or, count_by}
 use Rattle.std.specs.List.{list_any}
 use Rattle.demi_spec.specs.Reply.{Reply}
 use Rattle.demi_served.specs.Served.{same_worker}
@@ -50,8 +50,8 @@ greatest_below heard worker sequence = most_before (λ s. greatest_at worker s h
 abbrev pub place_at : Places → ℕ → ℕ → ℕ
 place_at p worker sequence = get_or p.starts.items worker 0 + sequence
 
-abbrev pub has_place : Places → ℕ → ℕ → Type 0
-has_place p worker sequence = (worker < 256) × (sequence ≤ get_or p.counts.items worker 0)
+abbrev pub HasPlace : Places → ℕ → ℕ → Type 0
+HasPlace p worker sequence = (worker < 256) × (sequence ≤ get_or p.counts.items worker 0)
 
 -- where each worker's places begin
 abbrev pub AreStarts : List ℕ → List ℕ → Type 0
@@ -68,7 +68,7 @@ pub record IsPlacing (p : Places) (heard : List HeardReply) : Type 0 where
 
 -- a table has at each place what a function of the worker and the number says
 abbrev pub IsTable : {X : Type 0} → Places → (ℕ → ℕ → X) → List X → Type 0
-IsTable {X} p f table = (w s : ℕ) (d : X) → has_place p w s → get_or table (place_at p w s) d ≡ f w s
+IsTable {X} p f table = (w s : ℕ) (d : X) → HasPlace p w s → get_or table (place_at p w s) d ≡ f w s
 
 -- whether one of these replies has the worker and the number
 abbrev pub was_given : List HeardReply → ℕ → ℕ → Bool

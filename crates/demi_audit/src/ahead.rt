@@ -23,11 +23,7 @@ fn zeros(alloc: Global, count: usize) -> Result<Vec<u64>, NoMemory>
 }
 
 // The greatest version of the replies with each worker and number.
-fn find_greatest(
-    alloc: Global,
-    places: &Places,
-    heard: &[HeardReply],
-) -> Result<Vec<u64>, NoMemory>
+fn find_greatest(alloc: Global, places: &Places, heard: &[HeardReply]) -> Result<Vec<u64>, NoMemory>
     requires { IsPlacing places.now heard.now }
     ensures size { IfOk result (λ v. length v.items ≡ length heard.now + 256) }
     ensures table { IfOk result (λ v. IsTable places.now (λ w s. greatest_at w s heard.now) v.items) }

@@ -58,7 +58,7 @@ fn find_past(alloc: Global, text: &[u8], ends: &[usize]) -> Result<Past, NoMemor
     requires { (rs : List Record) × Logs text.now ends.now rs }
     ensures { (rs : List Record) → Logs text.now ends.now rs → IfOk result (λ p. PastOf p rs) }
 {
-    let mut past = Past::new(alloc)?;
+    let mut past = Past::new(alloc, ends.len())?;
     'adding: for i in 0..ends.len() {
         past.add(alloc, entry_at(text, ends, i).key)?;
     }
@@ -107,7 +107,13 @@ impl Book<'_> {
         requires some { 0 < version }
         ensures { (run : Run) → IsBook self.now run → result ≡ is_record (slice_get run.records (version - 1)) link index key.now value.now }
     {
-        is_record(&entry_at(self.text, &self.ends, version - 1), link, index, key, value)
+        is_record(
+            &entry_at(self.text, &self.ends, version - 1),
+            link,
+            index,
+            key,
+            value,
+        )
     }
 
     /// Whether the map of the first so many records has this value at a key, or none.
@@ -119,7 +125,10 @@ impl Book<'_> {
         if latest == 0 {
             return is_value(None, value);
         }
-        is_value(Some(entry_at(self.text, &self.ends, latest - 1).value), value)
+        is_value(
+            Some(entry_at(self.text, &self.ends, latest - 1).value),
+            value,
+        )
     }
 }
 

@@ -145,9 +145,9 @@ fn check_read(alloc: Global, text: &[u8], read: Transcript) -> Result<CheckEnd, 
 /// log. It is consistent exactly where the session was whole, all inputs ended. Otherwise the answer is the first fault:
 /// replies come first, by link and by index, and then the new records.
 ///
-/// It takes memory for each reply and each record, beside the transcript about 100 bytes for a request, and about as many
-/// steps as the transcript has bytes, times the logarithm of the number of its records. Neither is promised by a clause.
-/// `NoMemory` may come at any transcript.
+/// Beside the transcript it takes about 100 bytes of memory for a request, and up to twice that while its tables grow; its
+/// steps are about as many as the transcript has bytes, and for a get also the logarithm of how often its key was put.
+/// No clause says so. `NoMemory` may come at any transcript.
 pub fn check(alloc: Global, transcript: &[u8]) -> Result<CheckEnd, CheckRefusal>
     ensures consistent { IfOk result (λ end. HasFault transcript.now None) }
     ensures counts { IfOk result (λ end. Counts transcript.now end.links end.replies end.records) }

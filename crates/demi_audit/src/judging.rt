@@ -5,8 +5,8 @@ ghost use Rattle.demi_spec.specs.Reply.{Reply};
 ghost use Rattle.demi_served.specs.Talks.{Run};
 ghost use Rattle.demi_audit.specs.Asking.{asks, size_of};
 ghost use Rattle.demi_audit.specs.Falling.{greatest_of};
-ghost use Rattle.demi_audit.specs.Hearing.{replies_by, reply_by};
-ghost use Rattle.demi_audit.specs.Judging.{IsCase, no_reply};
+ghost use Rattle.demi_audit.specs.Hearing.{no_reply, replies_by, reply_by};
+ghost use Rattle.demi_audit.specs.Judging.{IsCase};
 ghost use Rattle.demi_audit.specs.Verdict.{is_right, link_fault};
 
 use crate::ask::{Ask, behind, next_ask};

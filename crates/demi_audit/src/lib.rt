@@ -1,16 +1,22 @@
 //! The auditor's tools: random inputs, what a link is told that is served alone, and a check of a whole session.
 //!
 //! [`generate`] makes the inputs of links from a number, exactly as its definition says. [`client`] gives what one link with an
-//! input is told and the log that it leaves, exactly those of the one-thread store. [`check`] reads the text of a session and says
-//! that replies and log agree, or names the first fault by the auditor's rules, or the first byte of the first field that is bad;
-//! [`the_verdict_is_whole`] is the law that these rules name no fault exactly where the session was whole.
-//! Nothing here starts a thread, and every call returns. Not promised: anything about time, and that memory is found.
+//! input is told and the log that it leaves, exactly those of the one-thread store. [`check`] reads the transcript of a session
+//! and says whether one store explains it, or else its first fault, as the auditor's rules in `specs/` name it.
+//! [`the_verdict_is_whole`] is their law: they name no fault exactly where the session was whole. Nothing here starts a thread, and
+//! every call returns.
+//! Inside, `transcript` and `entries` read the text, `hearing` and `ask` what was replied and asked; `places`, `ahead` and
+//! `turns` judge the sequence numbers of workers, `past`, `book` and `replying` the answers by the records of the log,
+//! `falling` the versions along a link; `judging`, `each_link` and `each_record` put these together in order.
+//! Not promised: anything about time, and that memory is found.
 #![tactic(auto)]
 
 mod ahead;
 mod ask;
 mod book;
 mod checking;
+#[cfg(test)]
+mod checking_tests;
 mod dealing;
 mod draws;
 mod each_link;

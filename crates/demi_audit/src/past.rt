@@ -27,11 +27,11 @@ pub(crate) struct Past {
 }
 
 impl Past {
-    /// No records.
-    pub(crate) fn new(alloc: Global) -> Result<Past, NoMemory>
+    /// No records, with room for so many.
+    pub(crate) fn new(alloc: Global, count: usize) -> Result<Past, NoMemory>
         ensures { IfOk result (λ p. PastOf p []) }
     {
-        let mut steps = Vec::new(alloc);
+        let mut steps = Vec::with_capacity(alloc, count.saturating_add(1))?;
         steps.push(BackStep {
             previous: 0,
             jump: 0,
@@ -60,7 +60,8 @@ impl Past {
         let back = self.steps[previous];
         let far = self.steps[back.jump];
         let farther = self.steps[far.jump];
-        let is_twice = back.depth.saturating_sub(far.depth) == far.depth.saturating_sub(farther.depth);
+        let is_twice = back.depth.saturating_sub(far.depth)
+            == far.depth.saturating_sub(farther.depth);
         BackStep {
             previous,
             jump: if is_twice { far.jump } else { previous },

@@ -1,6 +1,6 @@
 // Where each worker's replies have their places in a table by worker and sequence number.
 ghost use Rattle.std.specs.Prelude.{◌≡◌, ◌+◌, ◌<◌, ◌≤◌, ◌^◌, ℕ, List, None, length, sum, get_or, IfOk, IfSome};
-ghost use Rattle.demi_audit.specs.Turns.{AreStarts, IsPlacing, count_of, has_place, place_at};
+ghost use Rattle.demi_audit.specs.Turns.{AreStarts, IsPlacing, count_of, HasPlace, place_at};
 
 use crate::heard::HeardReply;
 use demi_core::NoMemory;
@@ -62,7 +62,7 @@ impl Places {
         requires { (heard : List HeardReply) × IsPlacing self.now heard }
         ensures none { result ≡ None → get_or self.now.counts.items worker 0 < sequence }
         ensures place { IfSome result (λ at. at ≡ place_at self.now worker sequence) }
-        ensures there { IfSome result (λ at. has_place self.now worker sequence) }
+        ensures there { IfSome result (λ at. HasPlace self.now worker sequence) }
         ensures within { (heard : List HeardReply) → IsPlacing self.now heard → IfSome result (λ at. at < length heard + 256) }
     {
         let count = self.counts[worker as usize];

@@ -29,9 +29,7 @@ fn is_turn(places: &Places, ahead: &[u64], given: &[bool], reply: HeardReply) ->
 {
     match places.place(reply.worker, reply.sequence) {
         Some(at) => {
-            0 < reply.sequence
-                && !given[at]
-                && !is_late(reply.kind, reply.version, ahead[at])
+            0 < reply.sequence && !given[at] && !is_late(reply.kind, reply.version, ahead[at])
         }
         None => false,
     }

@@ -1,4 +1,4 @@
-use Rattle.std.proofs.Common.{◌≡◌, ℕ, List, length, sym, subst, ap, ◌∙◌, arith, take, drop, ◌++◌}
+use Rattle.std.proofs.Common.{sym, subst, arith}
 use Rattle.demi_audit.specs.Turns.{IsTable, greatest_below, greatest_at}
 use Rattle.demi_audit.proofs.Raising.{spliced}
 use Rattle.demi_audit.proofs.ahead.find_ahead.Goals as goal

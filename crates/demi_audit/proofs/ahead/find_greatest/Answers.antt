@@ -1,10 +1,10 @@
-use Rattle.std.proofs.Common.{refl, ◌≡◌, ◌+◌, ◌<◌, ℕ, List, length, get_or, arith, ap, ◌∙◌, sym, subst, replicate, set, take}
+use Rattle.std.proofs.Common.{refl, ◌≡◌, ◌+◌, ◌<◌, ℕ, List, length, get_or, arith, ap, ◌∙◌, sym, subst, set, take}
 use Rattle.std.specs.Prelude.{max}
-use Rattle.std.specs.Vec.{with_item}
 use Rattle.std.proofs.lemmas.List.{get_or_read, get_or-replicate, length-replicate, length-set}
 use Rattle.demi_audit.specs.Hearing.{height}
 use Rattle.demi_audit.specs.Turns.{IsTable, greatest_at, place_at}
-use Rattle.demi_audit.proofs.Placing.{place_within, no_reply}
+use Rattle.demi_audit.specs.Hearing.{no_reply}
+use Rattle.demi_audit.proofs.Placing.{place_within}
 use Rattle.demi_audit.proofs.Raising.{table_more, table_same}
 use Rattle.demi_audit.proofs.ahead.find_greatest.Goals as goal
 use Rattle.demi_audit.proofs.ahead.find_greatest.Goals.{in-Some, in_default}

@@ -1,8 +1,7 @@
-use Rattle.std.proofs.Common.{◌≡◌, ◌+◌, ◌<◌, ◌≤◌, ℕ, None, get_or, length, drop, arith, sym, ◌∙◌, refl}
+use Rattle.std.proofs.Common.{get_or, arith, refl}
 use Rattle.std.proofs.lemmas.Bool.Decides.{nat_tests}
 use Rattle.std.proofs.lemmas.List.{length-drop}
-use Rattle.demi_spec.specs.Input.{code_of_head, head_key, head_kind, head_value}
-use Rattle.demi_audit.proofs.AskReads.{AsksFirst, asks_as, cut_ask, head_refused, no_ask, short_ask, whole_ask}
+use Rattle.demi_audit.proofs.AskReads.{asks_as, cut_ask, head_refused, no_ask, short_ask, whole_ask}
 use Rattle.demi_audit.proofs.ask.next_ask.Goals as goal
 
 pub returns-then-is_empty-clause-asked : goal.returns-then-is_empty-clause-asked

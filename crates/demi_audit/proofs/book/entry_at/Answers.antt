@@ -1,5 +1,5 @@
-use Rattle.std.proofs.Common.{◌≡◌, ◌<◌, ℕ, List, length, map, arith, Some, get_or}
-use Rattle.demi_spec.specs.Record.{payload, record_of}
+use Rattle.std.proofs.Common.{◌<◌, length, map, arith, get_or}
+use Rattle.demi_spec.specs.Record.{payload}
 use Rattle.demi_audit.specs.Past.{no_record}
 use Rattle.demi_audit.proofs.Books.{holds_of, is_some, one_length, parts_are, record_cut, record_there}
 use Rattle.demi_audit.proofs.Logged.{counted}

@@ -1,4 +1,4 @@
-use Rattle.std.proofs.Common.{◌≡◌, ◌+◌, ◌≤◌, ◌<◌, ℕ, List, length, take, get_or, arith, ap, sym, subst}
+use Rattle.std.proofs.Common.{◌<◌, length, take, get_or, arith, ap, sym, subst}
 use Rattle.std.proofs.lemmas.List.{take_all, take_more}
 use Rattle.demi_spec.specs.Record.{Record}
 use Rattle.demi_audit.specs.Past.{PastOf, no_record}

@@ -1,4 +1,4 @@
-use Rattle.std.proofs.Common.{List, None, length, arith, ap, sym, ◌∙◌}
+use Rattle.std.proofs.Common.{None, length, arith, ap, sym, ◌∙◌}
 use Rattle.std.proofs.lemmas.List.{length-map}
 use Rattle.demi_audit.specs.Reading.{link_by}
 use Rattle.demi_audit.proofs.Checks.{has_fault, links_are, log_cut, said_count, same_follows, same_heard, says_refuses}

@@ -1,4 +1,4 @@
-use Rattle.std.proofs.Common.{ℕ, List, None, Some, arith, drop, get_or, take}
+use Rattle.std.proofs.Common.{None, Some, arith, drop, get_or, take}
 use Rattle.demi_audit.specs.Hearing.{replies_by}
 use Rattle.demi_audit.proofs.EachLink.{cut_input, follows_count, link_decides, no_link, peel, places_count, said_are}
 use Rattle.demi_audit.proofs.Hearings.{no_places}

@@ -1,8 +1,8 @@
-use Rattle.std.proofs.Common.{◌+◌, List, take, arith, sym, ◌∙◌, subst}
+use Rattle.std.proofs.Common.{List, take, arith, sym, ◌∙◌, subst}
 use Rattle.std.proofs.lemmas.List.{take_all, take_more}
 use Rattle.demi_audit.specs.Checking.{MarksStored}
 use Rattle.demi_audit.specs.Hearing.{replies_by}
-use Rattle.demi_audit.specs.Judging.{no_reply}
+use Rattle.demi_audit.specs.Hearing.{no_reply}
 use Rattle.demi_audit.specs.declared.heard.HeardReply.{HeardReply}
 use Rattle.demi_audit.proofs.each_record.find_stored.Goals as goal
 

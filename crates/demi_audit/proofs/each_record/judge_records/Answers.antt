@@ -1,4 +1,4 @@
-use Rattle.std.proofs.Common.{◌≡◌, ◌+◌, ◌<◌, false, true, length, arith, sym, ◌∙◌}
+use Rattle.std.proofs.Common.{◌+◌, ◌<◌, false, true, length, arith, sym, ◌∙◌}
 use Rattle.demi_audit.proofs.EachRecord.{record_next}
 use Rattle.demi_audit.proofs.each_record.judge_records.Goals as goal
 

@@ -1,4 +1,4 @@
-use Rattle.std.proofs.Common.{◌≡◌, ℕ, ◌+◌, ◌≤◌, ◌<◌, true, false, List, length, take, drop, ap, sym, ◌∙◌, ◌-◌, arith, inl, inr, length-drop}
+use Rattle.std.proofs.Common.{ℕ, ◌≤◌, ◌<◌, List, length, take, drop, ap, sym, ◌∙◌, ◌-◌, arith, inl, inr, length-drop}
 use Rattle.std.specs.Int.{w32, from_be_bytes}
 use Rattle.demi_spec.specs.LogText.{entries}
 use Rattle.demi_audit.proofs.Finding.{bad_here, bad_within, behind, few_left, found_more, headless, wrong_length}

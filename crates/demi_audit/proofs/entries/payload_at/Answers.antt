@@ -1,5 +1,5 @@
-use Rattle.std.proofs.Common.{◌≡◌, ℕ, ◌+◌, ◌-◌, ◌≤◌, List, [], take, drop, get_or, ap, ◌∙◌, arith}
-use Rattle.demi_logq.specs.Logged.{Holds, place_of}
+use Rattle.std.proofs.Common.{◌+◌, ◌-◌, take, drop, ap, ◌∙◌, arith}
+use Rattle.demi_logq.specs.Logged.{place_of}
 use Rattle.demi_audit.proofs.Logged.{payload_is, span_fits}
 use Rattle.demi_audit.proofs.entries.payload_at.Goals as goal
 

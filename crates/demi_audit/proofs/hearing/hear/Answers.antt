@@ -1,4 +1,4 @@
-use Rattle.std.proofs.Common.{◌≡◌, List, ◌++◌, ◌∷◌, [], length, subst, sym, ℕ, ◌+◌, take}
+use Rattle.std.proofs.Common.{List, subst, sym, ◌+◌, take}
 use Rattle.demi_audit.specs.declared.hearing.LinkHeard.{LinkHeard}
 use Rattle.demi_audit.proofs.Hearings.{HeardLinks, link_more, no_places}
 use Rattle.demi_audit.proofs.hearing.hear.Goals as goal

@@ -1,10 +1,10 @@
-use Rattle.std.proofs.Common.{◌≡◌, ℕ, List, Bool, Option, true, false, take, drop, get_or, ap, sym, ◌∙◌, subst, arith}
+use Rattle.std.proofs.Common.{◌≡◌, ℕ, List, Option, true, false, take, drop, ap, sym, ◌∙◌, subst, arith}
 use Rattle.std.specs.List.{list_any}
 use Rattle.std.proofs.lemmas.List.{get_or_read}
 use Rattle.demi_served.specs.Answers.{is_stored, version_of}
 use Rattle.demi_audit.specs.Asking.{asks}
 use Rattle.demi_audit.specs.Hearing.{answer_by, replies_by, reply_by}
-use Rattle.demi_audit.specs.Judging.{no_reply}
+use Rattle.demi_audit.specs.Hearing.{no_reply}
 use Rattle.demi_audit.specs.Turns.{is_in_turn}
 use Rattle.demi_audit.specs.Verdict.{Around, answers, falls, falls_by, is_right}
 use Rattle.demi_audit.specs.declared.heard.HeardReply.{HeardReply}

@@ -1,14 +1,11 @@
-use Rattle.std.proofs.Common.{◌≡◌, ◌+◌, ◌≤◌, ◌<◌, ℕ, List, Bool, Option, true, false, length, take, drop, get_or, ap, sym, ◌∙◌, subst, arith}
-use Rattle.std.specs.Prelude.{nat_lt}
+use Rattle.std.proofs.Common.{◌≡◌, ◌+◌, ◌<◌, ℕ, List, Option, length, take, drop, get_or, ap, sym, ◌∙◌, subst, arith}
 use Rattle.std.proofs.lemmas.List.{get_or_read}
-use Rattle.demi_spec.specs.Input.{asked}
 use Rattle.demi_served.specs.Answers.{version_of}
-use Rattle.demi_audit.specs.Asking.{asks, rest_of}
 use Rattle.demi_audit.specs.Falling.{later_of}
-use Rattle.demi_audit.specs.Hearing.{answer_by, replies_by, reply_by}
-use Rattle.demi_audit.specs.Judging.{no_reply}
+use Rattle.demi_audit.specs.Hearing.{replies_by, reply_by}
+use Rattle.demi_audit.specs.Hearing.{no_reply}
 use Rattle.demi_audit.specs.declared.heard.HeardReply.{HeardReply}
-use Rattle.demi_audit.proofs.Judgings.{JudgesOn, judged_missing, judged_more, judged_right, judged_surplus, judged_wrong, judges_more}
+use Rattle.demi_audit.proofs.Judgings.{JudgesOn, judged_more, judged_surplus, judged_wrong, judges_more}
 use Rattle.demi_audit.proofs.judging.judge_link.Goals as goal
 
 pub returns-in_default : goal.returns-in_default

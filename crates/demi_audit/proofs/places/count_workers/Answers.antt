@@ -1,6 +1,7 @@
 use Rattle.std.proofs.Common.{◌<◌, arith, get_or}
 use Rattle.std.proofs.lemmas.List.{get_or_read}
-use Rattle.demi_audit.proofs.Placing.{counted_more, no_reply}
+use Rattle.demi_audit.specs.Hearing.{no_reply}
+use Rattle.demi_audit.proofs.Placing.{counted_more}
 use Rattle.demi_audit.proofs.places.count_workers.Goals as goal
 
 pub counting-preserved : goal.counting-preserved

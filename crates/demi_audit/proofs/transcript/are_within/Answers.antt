@@ -1,4 +1,4 @@
-use Rattle.std.proofs.Common.{◌≡◌, ℕ, length, ap, sym, ◌∙◌, subst, arith, leb}
+use Rattle.std.proofs.Common.{◌≡◌, length, ap, sym, ◌∙◌, subst, arith, leb}
 use Rattle.demi_audit.specs.Reading.{IsLogPart}
 use Rattle.demi_audit.specs.Transcript.{are_within}
 use Rattle.demi_audit.specs.declared.transcript.LogPart.{LogPart}

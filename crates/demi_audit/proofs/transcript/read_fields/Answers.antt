@@ -1,4 +1,4 @@
-use Rattle.std.proofs.Common.{◌≡◌, ℕ, ap, sym, ◌∙◌, arith}
+use Rattle.std.proofs.Common.{ap, sym, ◌∙◌, arith}
 use Rattle.demi_audit.specs.Transcript.{are_within, log_records}
 use Rattle.demi_audit.proofs.Fields.{all_good, bad_limit, bad_links, bad_mark, bad_old, in_range, no_old, no_size}
 use Rattle.demi_audit.proofs.transcript.read_fields.Goals as goal

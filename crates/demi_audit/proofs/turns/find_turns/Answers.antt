@@ -1,8 +1,8 @@
-use Rattle.std.proofs.Common.{◌≡◌, ◌+◌, ◌<◌, ◌++◌, ◌∷◌, ℕ, Bool, List, [], length, take, get_or, arith, sym, subst, ap, ◌∙◌}
+use Rattle.std.proofs.Common.{◌≡◌, ◌+◌, ◌<◌, Bool, List, length, take, get_or, arith, sym, subst, ◌∙◌}
 use Rattle.std.proofs.lemmas.List.{take_more}
 use Rattle.demi_audit.specs.Turns.{IsTable, greatest_below, turn_of, was_given}
 use Rattle.demi_audit.specs.declared.heard.HeardReply.{HeardReply}
-use Rattle.demi_audit.proofs.Placing.{no_reply}
+use Rattle.demi_audit.specs.Hearing.{no_reply}
 use Rattle.demi_audit.proofs.Turning.{TurnsTo, turn_as, turn_more}
 use Rattle.demi_audit.proofs.turns.find_turns.Goals as goal
 

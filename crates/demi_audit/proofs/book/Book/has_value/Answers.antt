@@ -1,9 +1,8 @@
-use Rattle.std.proofs.Common.{◌≡◌, ◌≤◌, ◌<◌, ◌-◌, ℕ, List, Option, None, Some, length, take, get_or, arith, ap, sym, ◌∙◌, subst}
+use Rattle.std.proofs.Common.{◌≡◌, ◌≤◌, ℕ, List, Option, None, Some, length, take, arith, ap, sym, ◌∙◌, subst}
 use Rattle.std.specs.Option.{option_copied}
 use Rattle.demi_spec.specs.Record.{Record}
 use Rattle.demi_spec.specs.Store.{map}
 use Rattle.demi_audit.specs.Entries.{Logs}
-use Rattle.demi_audit.specs.Past.{IsLatest, no_record}
 use Rattle.demi_audit.specs.Verdict.{is_value}
 use Rattle.demi_audit.proofs.Books.{one_length, value_at}
 use Rattle.demi_audit.proofs.Pasts.{latest_is, value_of}

@@ -1,6 +1,6 @@
 use Rattle.std.proofs.Common.{◌≡◌, ◌+◌, ◌≤◌, ℕ, List, length, arith, ap, sym, ◌∙◌, subst, cond}
 use Rattle.std.specs.Prelude.{bytes_eq}
-use Rattle.demi_audit.specs.Past.{IsBack, IsLatest, PastOf, last_of}
+use Rattle.demi_audit.specs.Past.{IsBack, last_of}
 use Rattle.demi_audit.proofs.Pasts.{last_more, past_more}
 use Rattle.demi_audit.proofs.past.Past.add.Goals as goal
 

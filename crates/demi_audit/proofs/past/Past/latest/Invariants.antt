@@ -1,4 +1,4 @@
-use Rattle.std.proofs.Common.{ℕ, List, length, ◌≤◌}
+use Rattle.std.proofs.Common.{List, length, ◌≤◌}
 use Rattle.demi_spec.specs.Record.{Record}
 use Rattle.demi_audit.specs.Past.{PastOf}
 use Rattle.demi_audit.proofs.Pasts.{WalksTo}

@@ -1,6 +1,5 @@
-use Rattle.std.proofs.Common.{◌≡◌, ◌≤◌, ◌<◌, arith, length, get_or}
+use Rattle.std.proofs.Common.{◌≤◌, ◌<◌, arith, get_or}
 use Rattle.std.proofs.lemmas.List.{get_or_read}
-use Rattle.demi_audit.specs.Turns.{place_at}
 use Rattle.demi_audit.proofs.Placing.{place_within}
 use Rattle.demi_audit.proofs.places.Places.place.Goals as goal
 
