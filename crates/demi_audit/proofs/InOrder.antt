@@ -17,16 +17,6 @@ use Rattle.demi_spec.proofs.Serial.{serial-push, with_one}
 use Rattle.demi_audit.specs.declared.text_store.TextStore.{TextStore}
 use Rattle.demi_audit.specs.TextStores.{AnswersAll, Answered, Keeps, SoFar, asks_of, reply_on}
 
--- nothing was asked yet
-pub so_start : (old : List Record) (limit : ℕ) (input left output : List ℕ) (s : TextStore) → Keeps s old → output ≡ [] → left ≡ input → SoFar old limit input left output s 0
-so_start old limit input left output s keeps none all = record {
-  requests = [];
-  text = sym all;
-  go_on = tt;
-  count_is = refl;
-  answers = record { says = none; keeps = subst (Keeps s) (sym (append-nil old)) keeps };
-}
-
 -- one more was answered
 pub all_answered : (old : List Record) (limit : ℕ) (asks : List Asked) (ask : Asked) (output output' : List ℕ) (s s' : TextStore) (count : ℕ) → count ≡ length asks → AnswersAll old limit asks output s
     → Answered (old ++ (serial old limit asks).records) limit count ask output output' s' → AnswersAll old limit (asks ++ ask ∷ []) output' s'
@@ -123,17 +113,6 @@ served_clean old limit input left output s count so clean =
     served_by old limit input left output output s s count so [] (asked_is [] Clean true left clean)
     (subst (λ (l : List Asked). AnswersAll old limit l output s) (sym (append-nil (asks_of so.requests))) so.answers)
 
--- a put was answered by a full store, or added a record
-pub put_full : (rs : List Record) (limit index version : ℕ) (key value before after : List ℕ) (s : TextStore) → Keeps s rs → version ≡ s.count → limit ≤ version
-    → after ≡ before ++ reply.spelling_of 0 (index + 1) (reply.Full version) → Answered rs limit index (Request_of (Put key value)) before after s
-put_full rs limit index version key value before after s keeps version_is most says =
-    let long : version ≡ length rs = version_is ∙ keeps.count in
-    let test : nat_le limit (length rs) ≡ true = grind (arith, nat_tests) in
-    record {
-      says = says ∙ ap (λ n. before ++ reply.spelling_of 0 (index + 1) (reply.Full n)) long ∙ rw test refl;
-      keeps = rw test (subst (Keeps s) (sym (append-nil rs)) keeps);
-    }
-
 pub put_stored : (rs : List Record) (limit index version : ℕ) (key value before after : List ℕ) (s s' : TextStore) → Keeps s rs → version ≡ s.count → version < limit
     → Keeps s' (rs ++ record { link = 0; index = index; key = key; value = value } ∷ []) → after ≡ before ++ reply.spelling_of 0 (index + 1) (reply.Stored (version + 1) value)
     → Answered rs limit index (Request_of (Put key value)) before after s'
@@ -144,13 +123,6 @@ put_stored rs limit index version key value before after s s' keeps version_is l
       says = says ∙ ap (λ n. before ++ reply.spelling_of 0 (index + 1) (reply.Stored (n + 1) value)) long ∙ rw test refl;
       keeps = rw test more;
     }
-
--- what was found is the answer to a get
-pub get_is : (rs : List Record) (limit index version : ℕ) (key before after : List ℕ) (found : Option (List ℕ)) (s : TextStore) → Keeps s rs → version ≡ s.count → found ≡ store.map rs key
-    → after ≡ before ++ reply.spelling_of 0 (index + 1) (store.found version found) → after ≡ before ++ reply_on rs limit index (Request_of (Get key))
-get_is rs limit index version key before after found s keeps version_is found_is says =
-    says ∙ ap (λ n. before ++ reply.spelling_of 0 (index + 1) (store.found n found)) (version_is ∙ keeps.count)
-    ∙ ap (λ (o : Option (List ℕ)). before ++ reply.spelling_of 0 (index + 1) (store.found (length rs) o)) found_is
 
 -- a get adds no record
 pub got : (rs : List Record) (limit index : ℕ) (key before after : List ℕ) (s : TextStore) → Keeps s rs → after ≡ before ++ reply_on rs limit index (Request_of (Get key)) → Answered rs limit index (Request_of (Get key)) before after s

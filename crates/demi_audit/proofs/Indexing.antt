@@ -71,13 +71,6 @@ indexes_push text values new rs r s i within is set = record {
     within_by true o w = within
     within_by false o w = w
 
--- no record was read yet
-pub indexes_none : (text : List ℕ) (values : Values) → ((key : List ℕ) → span_of values key ≡ None) → Indexes text values []
-indexes_none text values none = record {
-  finds = λ key. ap (option_map (bytes_at text)) (none key);
-  within = λ key. subst (λ (o : Option Span). IfSome o (IsWithin text)) (sym (none key)) tt;
-}
-
 -- what stands at the end of a text
 pub tail_at : (front value : List ℕ) (n : ℕ) → n + length value ≡ length (front ++ value) → take (length value) (drop n (front ++ value)) ≡ value
 tail_at front value n is =

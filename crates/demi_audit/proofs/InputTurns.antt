@@ -16,33 +16,17 @@ fed_more rest rest' piece input fed n is grown =
     ∙ append_assoc rest (take n (drop fed input)) (drop n (drop fed input))
     ∙ ap (λ (l : List ℕ). rest ++ l) (take-append-drop n (drop fed input))
 
--- a request that stands at the front of what waits stands at that of what is left
-pub takes_left : (rest after unfed : List ℕ) (q : Request) → Takes rest q after → Takes (rest ++ unfed) q (after ++ unfed)
-takes_left rest after unfed q takes = record {
-  text = ap (λ (l : List ℕ). l ++ unfed) takes.text ∙ append_assoc _ after unfed;
-  fits = takes.fits;
-}
-
 -- a frame is refused whatever follows it
 pub refused_left : (rest unfed : List ℕ) (code : ℕ) → front false rest ≡ Ends (Refused code) → front true (rest ++ unfed) ≡ Ends (Refused code)
 refused_left rest unfed code refused = refused_ends (rest ++ unfed) code (refused_more rest unfed code refused)
 
 -- all was fed
-code_at : (code : ℕ) (rest : List ℕ) → Some code ≡ code_of (Ends (ending_of rest)) → ending_of rest ≡ Refused code
-code_at code [] is = absurd (cc)
-code_at code (b ∷ rest) is = cc
-
 none_at : (rest : List ℕ) → None ≡ code_of (Ends (ending_of rest)) → ending_of rest ≡ Clean
 none_at [] is = refl
 none_at (b ∷ rest) is = absurd (cc)
 
 all_fed : (rest unfed : List ℕ) → unfed ≡ [] → rest ++ unfed ≡ rest
 all_fed rest unfed none = ap (λ (l : List ℕ). rest ++ l) none ∙ append-nil rest
-
-pub short_left : (rest unfed : List ℕ) (code : ℕ) → unfed ≡ [] → front false rest ≡ Ends Open → Some code ≡ code_of (front true rest) → front true (rest ++ unfed) ≡ Ends (Refused code)
-short_left rest unfed code none is_open is =
-    let ends : front true rest ≡ Ends (ending_of rest) = open_ends rest is_open in
-    ap (front true) (all_fed rest unfed none) ∙ ends ∙ ap Ends (code_at code rest (is ∙ ap code_of ends))
 
 pub clean_left : (rest unfed : List ℕ) → unfed ≡ [] → front false rest ≡ Ends Open → None ≡ code_of (front true rest) → front true (rest ++ unfed) ≡ Ends Clean
 clean_left rest unfed none is_open is =
