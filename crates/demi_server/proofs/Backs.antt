@@ -1,11 +1,11 @@
 -- What was made, has run and was taken apart is back.
-use Rattle.std.proofs.Common.{◌≡◌, ◌∙◌, ℕ, zero, suc, ◌+◌, ◌<◌, List, [], ◌∷◌, Bool, Option, length, map, get_or, sym, ap, subst, arith, refl}
+use Rattle.std.proofs.Common.{◌≡◌, ◌∙◌, ℕ, suc, ◌<◌, List, [], ◌∷◌, Bool, Option, length, map, get_or, sym, ap, subst, arith, refl}
 use Rattle.demi_heap.specs.Seen.{HeapId}
 use Rattle.demi_heap.specs.Seen.{PassValue as HeapPass}
 use Rattle.demi_port.specs.Seen.{DeviceValue, PortId}
 use Rattle.demi_store.specs.Laws.{StoreBasis}
 use Rattle.demi_pdpix.specs.Seen.{AreNewPairs, DemiId, IsNewPair, Pair}
-use Rattle.demi_server.specs.Building.{LinkDevices, rx_of, tx_of}
+use Rattle.demi_server.specs.Building.{rx_of, tx_of}
 use Rattle.demi_server.specs.Gathering.{AllDevices, AreBack, AreBackAt, AreFor, Have, IsBackAt}
 use Rattle.demi_server.specs.Runs.{MemRan, RxRan, StoreRan, TxRan}
 use Rattle.demi_server.specs.Working.{BothDone, EachBecame}

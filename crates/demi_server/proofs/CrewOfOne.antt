@@ -1,5 +1,5 @@
 -- What a crew of one comes to.
-use Rattle.std.proofs.Common.{◌≡◌, ◌∙◌, ℕ, ◌+◌, List, [], ◌∷◌, ◌++◌, ap, arith, get_or, length, length-append, refl, subst, sym}
+use Rattle.std.proofs.Common.{◌≡◌, ◌∙◌, List, [], ◌∷◌, ◌++◌, ap, arith, get_or, length, length-append, refl, subst, sym}
 use Rattle.demi_pdpix.specs.Owing.{Owes}
 use Rattle.demi_pdpix.specs.Seen.{IsOf}
 use Rattle.demi_worker.specs.declared.ended.Ended.{Ended}

@@ -1,12 +1,11 @@
 -- The parts of all devices.
-use Rattle.std.proofs.Common.{rules, ◌≡◌, ◌∙◌, ℕ, zero, suc, ◌+◌, ◌<◌, ◌≤◌, List, [], ◌∷◌, ◌++◌, All, length, map, reverse, get_or, refl, sym, ap, subst, arith}
+use Rattle.std.proofs.Common.{◌≡◌, ◌∙◌, ℕ, zero, suc, List, [], ◌∷◌, ◌++◌, All, length, map, reverse, refl, ap, arith}
 use Rattle.std.proofs.lemmas.List.{reverse-reverse}
 use Rattle.demi_heap.specs.Seen.{HeapId}
 use Rattle.demi_port.specs.Seen.{DeviceValue, IsNewSeat, PortId}
 use Rattle.demi_device.specs.Turning.{IsFresh}
 use Rattle.demi_pdpix.specs.Seen.{AreNewPairs, IsNewPair, Pair}
-use Rattle.demi_server.specs.Building.{AreSeated, HasRoom, IsEmptyHome, IsSeated}
-use Rattle.demi_server.specs.declared.home.Home.{Home}
+use Rattle.demi_server.specs.Building.{AreSeated, IsSeated}
 
 -- a new seat has done nothing
 new_fresh : {D T B : Type 0} (port : PortId B) (n : ℕ) (s : DeviceValue D T B) → IsNewSeat port n s → IsFresh s

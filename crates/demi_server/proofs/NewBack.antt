@@ -1,5 +1,5 @@
 -- Parts of devices that were never made, or never ran, are back.
-use Rattle.std.proofs.Common.{◌≡◌, ◌∙◌, ℕ, zero, suc, ◌+◌, ◌<◌, Bool, List, [], ◌∷◌, All, ap, arith, inr, length, map, refl, subst, sym}
+use Rattle.std.proofs.Common.{◌≡◌, ◌∙◌, ℕ, zero, suc, Bool, List, [], ◌∷◌, All, ap, arith, inr, length, map, refl, subst, sym}
 use Rattle.demi_heap.specs.Seen.{HeapId}
 use Rattle.demi_heap.specs.Seen.{PassValue as HeapPass}
 use Rattle.demi_device.specs.Turning.{WholeDevice}

@@ -14,7 +14,7 @@ use Rattle.demi_spec.specs.LogText.{header, entries}
 use Rattle.demi_spec.specs.Record.{Record, payload, records, records_in}
 use Rattle.demi_store.specs.Openings.{BeginsEntry}
 use Rattle.demi_server.specs.Logs.{HadRecords, HeadedInPart, IsBad, Unmade, contents, contents_of, opened_log, refused_as}
-use Rattle.demi_server.proofs.Growth.{front_grown, none_grown}
+use Rattle.demi_server.proofs.Growth.{front_grown}
 
 -- a log at a moment
 abbrev pub at_moment : Option (List ℕ) → ℕ → ℕ → Log

@@ -10,7 +10,7 @@ use Rattle.demi_port.specs.Seen.{says}
 use Rattle.demi_served.specs.Accounts.{asked_in, standing_at_end}
 use Rattle.demi_served.specs.Asking.{Ask, Puts}
 use Rattle.demi_served.specs.Ends.{StoreEnd}
-use Rattle.demi_served.specs.LogEnds.{IsTorn, LogEnds}
+use Rattle.demi_served.specs.LogEnds.{IsTorn}
 use Rattle.demi_spec.specs.LogText.{header}
 use Rattle.demi_spec.specs.Record.{Record, entries_of}
 use Rattle.demi_store.specs.Engine.{EngineValue, GoesTo, Steps}

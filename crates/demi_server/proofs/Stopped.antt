@@ -1,11 +1,11 @@
 -- A whole with one caller, at its beginning and at its end.
-use Rattle.std.proofs.Common.{◌≡◌, ◌∙◌, ℕ, zero, suc, ◌+◌, ◌<◌, List, [], ◌∷◌, ◌++◌, All, length, length-append, get_or, refl, sym, ap, subst, arith, inl}
+use Rattle.std.proofs.Common.{◌≡◌, ◌∙◌, ℕ, zero, suc, ◌<◌, List, [], ◌∷◌, All, length, get_or, refl, sym, ap, subst, arith, inl}
 use Rattle.demi_heap.specs.Seen.{HeapId}
 use Rattle.demi_port_core.specs.History.{Each}
-use Rattle.demi_port.specs.Seen.{DeviceValue, PassValue, PortId}
+use Rattle.demi_port.specs.Seen.{PassValue, PortId}
 use Rattle.demi_pdpix.specs.Alone.{IsAlone}
 use Rattle.demi_pdpix.specs.Closing.{AllBack, AllBackAt}
-use Rattle.demi_pdpix.specs.Owing.{IsDue, Owes}
+use Rattle.demi_pdpix.specs.Owing.{IsDue}
 use Rattle.demi_pdpix.specs.Seen.{AreAt, AreNewCallers, CallerValue, DemiId, Pair}
 use Rattle.demi_pdpix.proofs.Outstanding.{new_owes}
 use Rattle.demi_server.specs.Gathering.{AreBackAt, IsBackAt}

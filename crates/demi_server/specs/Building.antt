@@ -1,8 +1,7 @@
 -- What devices are made of, and what of them comes back.
-use Rattle.std.specs.Prelude.{◌≡◌, ◌⊎◌, ℕ, ◌<◌, ◌≤◌, List, [], ◌∷◌, ◌++◌, Option, Bool, All, length, map, slice_index_or, vec_capacity}
+use Rattle.std.specs.Prelude.{◌≡◌, ◌⊎◌, ℕ, ◌<◌, ◌≤◌, List, [], ◌∷◌, ◌++◌, Bool, length, map, slice_index_or, vec_capacity}
 use Rattle.demi_heap.specs.Seen.{HeapId}
-use Rattle.demi_heap.specs.Seen.{PassValue as HeapPass}
-use Rattle.demi_port.specs.Seen.{DeviceValue, PortId}
+use Rattle.demi_port.specs.Seen.{PortId}
 use Rattle.demi_device.specs.Serving.{HasStop}
 use Rattle.demi_device.specs.Turning.{IsFresh, WholeDevice}
 use Rattle.demi_memq.specs.Engine.{MemValue}

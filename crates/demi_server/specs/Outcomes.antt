@@ -1,5 +1,5 @@
 -- The outcome of a session, by how its links ended.
-use Rattle.std.specs.Prelude.{◌≡◌, ◌≢◌, ℕ, ◌+◌, List, [], ◌∷◌, Option, Some, None, option_map}
+use Rattle.std.specs.Prelude.{◌≢◌, ℕ, ◌+◌, List, [], ◌∷◌, Option, Some, None, option_map}
 use Rattle.std.specs.Option.{option_or}
 use Rattle.demi_port_core.specs.History.{Each}
 use Rattle.demi_link.specs.declared.phase.Cause.{Cause}

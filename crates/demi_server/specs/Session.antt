@@ -1,5 +1,5 @@
 -- What a session of one link and one worker comes to, by what it was given and what it hands back.
-use Rattle.std.specs.Prelude.{◌≡◌, ℕ, List, [], ◌∷◌, Option, map}
+use Rattle.std.specs.Prelude.{◌≡◌, ℕ, List, [], ◌∷◌, Option}
 use Rattle.demi_core.specs.Outside.{Rose}
 use Rattle.demi_device.specs.Serving.{trail}
 use Rattle.demi_heap.specs.Seen.{HeapId}

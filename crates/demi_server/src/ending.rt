@@ -9,7 +9,9 @@ ghost use Rattle.demi_server.specs.Session.{RxEndValue, TxEndValue};
 ghost use Rattle.demi_server.specs.declared.parts.Parts.{Parts};
 ghost use Rattle.demi_worker.specs.declared.ended.Ended.{Ended};
 
-use demi_closed::{a_served_link_closes, a_served_link_made_only_due_reads, a_session_of_one_link_closes};
+use demi_closed::{
+    a_served_link_closes, a_served_link_made_only_due_reads, a_session_of_one_link_closes,
+};
 use demi_core::{Disk, Sink, Source};
 use demi_link::an_ended_link_popped_all;
 use demi_served::a_log_ends_as_its_history;

@@ -7,10 +7,9 @@ ghost use Rattle.demi_server.specs.Staging.{StopsShared};
 mod only_link;
 mod stage;
 
-use demi_context::Context;
 use crate::job::{Crew, Job};
-use demi_context::stop_shared;
 use arrayvec::ArrayVec;
+use demi_context::{Context, stop_shared};
 use demi_core::NoMemory;
 use demi_pdpix::{Caller, Demi};
 use demi_sched::Scheduler;

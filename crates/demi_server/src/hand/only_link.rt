@@ -5,8 +5,8 @@ ghost use Rattle.demi_worker.specs.declared.ended.Ended.{Ended as End};
 ghost use Rattle.demi_server.specs.Hands.{ServedLink};
 ghost use Rattle.demi_server.specs.Staging.{IsUnused, MayTakeIn, TookIn};
 
-use demi_context::Context;
 use arrayvec::ArrayVec;
+use demi_context::Context;
 use demi_link::Cause;
 use demi_pdpix::{Caller, Demi};
 use demi_store::StoreLaw;

@@ -1,6 +1,6 @@
 //! How far a worker's work has come.
-use demi_context::Context;
 use arrayvec::ArrayVec;
+use demi_context::Context;
 use demi_pdpix::Caller;
 use demi_store::StoreLaw;
 use demi_worker::{Ended, Worker};

@@ -1,4 +1,4 @@
-use Rattle.std.proofs.Common.{◌≡◌, ◌∙◌, ◌≤◌, length, ap, sym, arith}
+use Rattle.std.proofs.Common.{◌∙◌, ◌≤◌, length, ap, sym, arith}
 use Rattle.std.proofs.lemmas.List.{length-map}
 use Rattle.demi_server.specs.Building.{ends_of}
 use Rattle.demi_server.proofs.Homes.{room_on}

@@ -1,4 +1,4 @@
-use Rattle.std.proofs.Common.{◌≡◌, ◌∙◌, [], ◌∷◌, ◌++◌, ap, get_or, length, refl, subst, sym}
+use Rattle.std.proofs.Common.{◌∙◌, [], ◌∷◌, ◌++◌, ap, length, subst, sym}
 use denote.Param.Send.{arg_send, param_send}
 use Rattle.demi_pdpix.specs.Alone.{IsAlone}
 use Rattle.demi_server.specs.Hands.{HandValue, HasFinished, HasServed, MayWork}

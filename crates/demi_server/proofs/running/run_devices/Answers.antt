@@ -1,5 +1,4 @@
-use Rattle.std.proofs.Common.{◌≡◌, ◌∙◌, ◌++◌, All, drop, length, take, ap, sym, subst, arith, inl}
-use Rattle.std.proofs.Math.Seq.{take-append_seam}
+use Rattle.std.proofs.Common.{◌∙◌, All, length, ap, sym, subst, arith, inl}
 use Rattle.demi_server.specs.Building.{HasRoom, IsLinkSpent}
 use Rattle.demi_server.specs.Runs.{RxRan, TxRan}
 use Rattle.demi_server.specs.Working.{BothDone, EachBecame}

@@ -1,4 +1,4 @@
-use Rattle.std.proofs.Common.{◌≡◌, ◌∙◌, [], length, sym, ap, subst, arith}
+use Rattle.std.proofs.Common.{◌≡◌, ◌∙◌, length, sym, ap, subst, arith}
 use Rattle.demi_port_core.specs.History.{Each}
 use Rattle.demi_pdpix.specs.Closing.{AllBackAt}
 use Rattle.demi_pdpix.specs.Returning.{rx_at, tx_at}

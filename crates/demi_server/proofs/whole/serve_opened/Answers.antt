@@ -1,4 +1,4 @@
-use Rattle.std.proofs.Common.{◌≡◌, ◌≤◌, ◌∙◌, ap, arith, map, subst, sym}
+use Rattle.std.proofs.Common.{◌∙◌, ap, arith, map, subst}
 use Rattle.demi_pdpix.specs.Closing.{AreEndsOf}
 use Rattle.demi_pdpix.specs.Lanes.{IsEndOf}
 use Rattle.demi_pdpix.specs.Returning.{rx_at, tx_at}

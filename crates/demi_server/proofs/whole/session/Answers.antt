@@ -1,4 +1,4 @@
-use Rattle.std.proofs.Common.{◌≡◌, ◌∙◌, ap}
+use Rattle.std.proofs.Common.{◌∙◌, ap}
 use Rattle.demi_server.proofs.Sessions.{log_unmade, none_as, session_ran, session_read, some_as}
 use Rattle.demi_server.proofs.whole.session.Goals as goal
 

@@ -1,4 +1,4 @@
-use Rattle.std.proofs.Common.{rules, ◌≡◌, ◌∙◌, ◌+◌, ◌≤◌, [], ◌∷◌, length, ap, arith}
+use Rattle.std.proofs.Common.{rules, ◌≡◌, ◌∙◌, ◌+◌, ◌≤◌, [], length, ap, arith}
 use Rattle.demi_server.specs.Building.{IsLinkSpent, ends_of, rx_of, tx_of}
 use Rattle.demi_server.proofs.Homes.{all_but_last, all_home, came, one_less, room_on, roomy_on}
 use Rattle.demi_server.proofs.home.Home.give_all.Goals as goal

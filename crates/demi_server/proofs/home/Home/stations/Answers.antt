@@ -1,4 +1,4 @@
-use Rattle.std.proofs.Common.{rules, ◌≡◌, ◌∙◌, ◌+◌, ◌≤◌, [], ◌∷◌, All, length, map, reverse, ap, sym, subst, arith, refl, inr}
+use Rattle.std.proofs.Common.{rules, ◌∙◌, ◌+◌, ◌≤◌, All, length, ap, sym, subst, arith, refl, inr}
 use Rattle.demi_server.specs.Building.{IsEmptyHome, IsLinkNew, IsLinkSpent, IsSeated, ends_of, rx_of, tx_of}
 use Rattle.demi_server.proofs.Homes.{all_and_one, all_reversed, last_seated, none_away, one_less, room_here, room_on, roomy_on, seated_here, went}
 use Rattle.demi_server.proofs.home.Home.stations.Goals as goal
