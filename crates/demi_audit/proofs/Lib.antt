@@ -17,3 +17,5 @@ pub mod Entering
 pub mod Keeping
 pub mod Turning
 pub mod InOrder
+pub mod Counting
+pub mod Sizes

@@ -6,3 +6,4 @@ pub mod Verdict
 pub mod Client
 pub mod Inputs
 pub mod TextStores
+pub mod Summary

@@ -13,6 +13,7 @@ mod entries;
 mod input_reader;
 mod laws;
 mod one_link;
+mod summing;
 #[cfg(test)]
 mod tests;
 mod text_store;
@@ -22,3 +23,4 @@ mod values;
 pub use dealing::generate;
 pub use laws::the_verdict_is_whole;
 pub use one_link::client;
+pub use summing::{MAX_SUMMARY_BYTES, Tally, count_requests, summary};
