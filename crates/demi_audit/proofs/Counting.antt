@@ -1,13 +1,13 @@
 -- Requests that are counted by their kinds.
-use Rattle.std.proofs.Common.{◌≡◌, ℕ, ◌+◌, Bool, true, false, List, [], ◌∷◌, ◌++◌, length, take, get_or, map, flat_map, refl, ap, sym, ◌∙◌, subst, arith, append_assoc, cond}
+use Rattle.std.proofs.Common.{◌≡◌, ℕ, ◌+◌, Bool, true, List, [], ◌∷◌, ◌++◌, length, flat_map, refl, ap, sym, ◌∙◌, subst, arith, append_assoc, cond}
 use Rattle.std.specs.Prelude.{codes}
 use Rattle.std.specs.Fmt.{decimal}
 use Rattle.std.specs.List.{count_by}
-use Rattle.std.proofs.lemmas.List.{append-nil, map-append}
+use Rattle.std.proofs.lemmas.List.{append-nil}
 use Rattle.std.proofs.lemmas.List.Sums.{sum_by-append}
 use Rattle.std.proofs.lemmas.Grind.{flat_map-append}
-use Rattle.demi_spec.specs.Request.{Request, Put, Get, End, GoesOn, AllGoOn, spelling}
-use Rattle.demi_spec.specs.Input.{Ending, EndFrame, Ends, Parses, Parsed, Takes, front, parse}
+use Rattle.demi_spec.specs.Request.{Request, Put, Get, End, GoesOn, spelling}
+use Rattle.demi_spec.specs.Input.{Ending, EndFrame, Ends, Parses, Parsed, Takes, front}
 use Rattle.demi_spec.proofs.Parsing.{AllGoOn-push, parsed, read_on}
 use Rattle.demi_audit.specs.declared.summing.Tally.{Tally}
 use Rattle.demi_audit.specs.Summary.{CountedTo, Tallies, is_put, is_get, is_end, line_of, requests_of, requests_of_all, summary_line}

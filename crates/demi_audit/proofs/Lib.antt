@@ -15,7 +15,7 @@ pub mod Logged
 pub mod Indexing
 pub mod Entering
 pub mod Keeping
-pub mod Turning
+pub mod Feeding
 pub mod InOrder
 pub mod Counting
 pub mod Sizes

@@ -1,5 +1,5 @@
 -- What sums up a bench: the requests of its inputs, and its log.
-use Rattle.std.specs.Prelude.{◌≡◌, ℕ, true, false, Bool, List, ◌++◌, length, map, flat_map, count_by, codes}
+use Rattle.std.specs.Prelude.{◌≡◌, ℕ, true, false, Bool, List, ◌++◌, length, flat_map, count_by, codes}
 use Rattle.std.specs.Fmt.{decimal}
 use Rattle.demi_spec.specs.Request.{Request, Put, Get, End, AllGoOn, spelling}
 use Rattle.demi_spec.specs.Input.{parse}

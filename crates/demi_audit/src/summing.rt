@@ -5,7 +5,7 @@ ghost use Rattle.arrayvec.specs.ArrayString.{array_string_len};
 ghost use Rattle.demi_spec.specs.Record.{Record, records as records_of_text};
 ghost use Rattle.demi_audit.specs.Summary.{Tallies, requests_of, requests_of_all, summary_line};
 
-use crate::input_reader::{InputReader, Turn};
+use crate::input_reader::{InputReader, Next};
 use crate::text_store::ends_of;
 use arrayvec::ArrayString;
 use demi_core::NoMemory;
@@ -45,14 +45,14 @@ pub fn count_requests(alloc: Global, input: &[u8]) -> Result<Tally, NoMemory>
     };
     'tallying: loop {
         match reader.next() {
-            Turn::Put => tally.puts += 1,
-            Turn::Get => tally.gets += 1,
-            Turn::End => {
+            Next::Put => tally.puts += 1,
+            Next::Get => tally.gets += 1,
+            Next::End => {
                 tally.ends += 1;
                 return Ok(tally);
             }
-            Turn::Refused(_) => return Ok(tally),
-            Turn::Clean => return Ok(tally),
+            Next::Refused(_) => return Ok(tally),
+            Next::Clean => return Ok(tally),
         }
     }
 }

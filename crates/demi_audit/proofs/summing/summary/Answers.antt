@@ -1,4 +1,4 @@
-use Rattle.std.proofs.Common.{◌≡◌, ◌∙◌, List, ℕ, length, map, ◌+◌, sym, arith}
+use Rattle.std.proofs.Common.{◌≡◌, length, map, ◌+◌, sym, arith}
 use Rattle.std.proofs.lemmas.List.{length-map}
 use Rattle.demi_audit.proofs.Counting.{line_written, summary_is}
 use Rattle.demi_audit.proofs.Logged.{counted}
