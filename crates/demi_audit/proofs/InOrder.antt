@@ -1,5 +1,5 @@
 -- An input is answered, one request after another.
-use Rattle.std.proofs.Common.{◌≡◌, ℕ, ◌+◌, ◌≤◌, ◌<◌, true, false, List, [], ◌∷◌, ◌++◌, length, flat_map, Option, refl, ap, sym, ◌∙◌, subst, arith, append_assoc, length-append}
+use Rattle.std.proofs.Common.{◌≡◌, ℕ, ◌+◌, ◌≤◌, ◌<◌, true, false, List, [], ◌∷◌, ◌++◌, length, flat_map, refl, ap, sym, ◌∙◌, subst, arith, append_assoc, length-append}
 use Rattle.std.specs.Prelude.{nat_le}
 use Rattle.std.proofs.lemmas.Bool.Decides.{nat_tests}
 use Rattle.std.proofs.lemmas.List.{append-nil, length-map, map-append}
@@ -11,7 +11,6 @@ use Rattle.demi_spec.specs.Reply as reply
 use Rattle.demi_spec.specs.Reply.{Reply}
 use Rattle.demi_spec.specs.Record.{Record}
 use Rattle.demi_spec.specs.Store.{answer, added, serial, Effect}
-use Rattle.demi_spec.specs.Store as store
 use Rattle.demi_spec.proofs.Parsing.{AllGoOn-push, asked_is, asked_on, length-spelling}
 use Rattle.demi_spec.proofs.Serial.{serial-push, with_one}
 use Rattle.demi_audit.specs.declared.text_store.TextStore.{TextStore}

@@ -15,7 +15,6 @@ pub mod Logged
 pub mod Indexing
 pub mod Entering
 pub mod Keeping
-pub mod InputTurns
 pub mod InOrder
 pub mod Placing
 pub mod Raising
@@ -29,3 +28,6 @@ pub mod Judgings
 pub mod EachLink
 pub mod EachRecord
 pub mod Checks
+pub mod Feeding
+pub mod Counting
+pub mod Sizes

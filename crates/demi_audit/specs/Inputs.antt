@@ -3,8 +3,8 @@ use Rattle.std.specs.Prelude.{◌≡◌, ℕ, ◌≤◌, true, List, ◌++◌, l
 use Rattle.demi_spec.specs.Request.{Request, Put, Get, End, GoesOn}
 use Rattle.demi_spec.specs.Input.{Clean, Refused, Ends, Takes, front}
 use Rattle.demi_audit.specs.declared.input_reader.InputReader.{InputReader}
-use Rattle.demi_audit.specs.declared.input_reader.Turn.{Turn}
-use Rattle.demi_audit.specs.declared.input_reader.Turn.TheVariants as turn
+use Rattle.demi_audit.specs.declared.input_reader.Next.{Next}
+use Rattle.demi_audit.specs.declared.input_reader.Next.TheVariants as next
 
 -- the bytes that were not handed out: those that wait in the decoder, and those that it was not fed
 abbrev pub left : InputReader → List ℕ
@@ -23,10 +23,10 @@ pub record HandsOut (old new : InputReader) (request : Request) : Type 0 where
   pub reader : IsReader new
   pub input : new.input.now ≡ old.input.now
 
--- What stood at the front of what was left.
-abbrev pub Turns : Turn → InputReader → InputReader → Type 0
-Turns turn.Put old new = (key value : List ℕ) × HandsOut old new (Put key value)
-Turns turn.Get old new = (key : List ℕ) × HandsOut old new (Get key)
-Turns turn.End old new = Takes (left old) End (left new)
-Turns (turn.Refused code) old new = front true (left old) ≡ Ends (Refused code)
-Turns turn.Clean old new = front true (left old) ≡ Ends Clean
+-- what stood at the front of what was left
+abbrev pub IsNext : Next → InputReader → InputReader → Type 0
+IsNext next.Put old new = (key value : List ℕ) × HandsOut old new (Put key value)
+IsNext next.Get old new = (key : List ℕ) × HandsOut old new (Get key)
+IsNext next.End old new = Takes (left old) End (left new)
+IsNext (next.Refused code) old new = front true (left old) ≡ Ends (Refused code)
+IsNext next.Clean old new = front true (left old) ≡ Ends Clean

@@ -14,3 +14,4 @@ pub mod Book
 pub mod Falling
 pub mod Judging
 pub mod Checking
+pub mod Summary

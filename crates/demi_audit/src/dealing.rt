@@ -1,4 +1,4 @@
-ghost use Rattle.std.specs.Prelude.{◌≡◌, ◌<◌, ◌≤◌, IfOk, map};
+ghost use Rattle.std.specs.Prelude.{◌≡◌, ◌<◌, ◌≤◌, ◌^◌, All, IfOk, length, map};
 ghost use Rattle.demi_audit.specs.Generator.{input_of, inputs};
 
 use crate::draws::{Draws, write_drawn};
@@ -40,7 +40,8 @@ pub fn generate(alloc: Global, seed: u64, links: u32, count: u32) -> Result<Vec<
     requires some { 1 ≤ links }
     requires most { links ≤ 16 }
     requires count { count ≤ 1000000 }
-    ensures { IfOk result (λ all. map (λ v. v.items) all.items ≡ inputs seed links count) }
+    ensures inputs { IfOk result (λ all. map (λ v. v.items) all.items ≡ inputs seed links count) }
+    ensures small { IfOk result (λ all. All (λ v. length v.items ≤ 2 ^ 34) all.items) }
 {
     let mut all = Vec::new(alloc);
     for link in 0..links {

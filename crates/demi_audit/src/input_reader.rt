@@ -9,7 +9,7 @@ const PIECE_BYTES: usize = 4096;
 
 /// What stands next in an input.
 #[derive(Clone, Copy)]
-pub(crate) enum Turn {
+pub(crate) enum Next {
     /// A put.
     Put,
     /// A get.
@@ -31,12 +31,12 @@ pub(crate) struct InputReader<'a> {
 }
 
 impl InputReader<'_> {
-    ghost use Rattle.demi_audit.specs.Inputs.{IsReader, Turns, left};
+    ghost use Rattle.demi_audit.specs.Inputs.{IsReader, IsNext, left};
 
     /// What stands next, which is handed out. Nothing may be asked behind an end frame, a refused frame or the end.
-    pub(crate) fn next(&mut self) -> Turn
+    pub(crate) fn next(&mut self) -> Next
         requires { IsReader self.old }
-        ensures { Turns result self.old self.new }
+        ensures { IsNext result self.old self.new }
     {
         'feeding: loop {
             match self.decoder.next() {
@@ -44,16 +44,16 @@ impl InputReader<'_> {
                     let rest = &self.input[self.fed..];
                     if rest.is_empty() {
                         return match self.decoder.finish() {
-                            Some(code) => Turn::Refused(code),
-                            None => Turn::Clean,
+                            Some(code) => Next::Refused(code),
+                            None => Next::Clean,
                         };
                     }
                     self.fed += self.decoder.feed(&rest[..rest.len().min(PIECE_BYTES)]);
                 }
-                Step::Put => return Turn::Put,
-                Step::Get => return Turn::Get,
-                Step::End => return Turn::End,
-                Step::Refused(code) => return Turn::Refused(code),
+                Step::Put => return Next::Put,
+                Step::Get => return Next::Get,
+                Step::End => return Next::End,
+                Step::Refused(code) => return Next::Refused(code),
             }
         }
     }

@@ -1,10 +1,11 @@
 //! The auditor's tools: random inputs, what a link is told that is served alone, and a check of a whole session.
 //!
-//! [`generate`] makes the inputs of links from a number, exactly as its definition says. [`client`] gives what one link with an
-//! input is told and the log that it leaves, exactly those of the one-thread store. [`check`] reads the transcript of a session
-//! and says whether one store explains it, or else its first fault, as the auditor's rules in `specs/` name it.
-//! [`the_verdict_is_whole`] is their law: they name no fault exactly where the session was whole. Nothing here starts a thread, and
-//! every call returns.
+//! [`generate`] makes the inputs of links from a number, exactly as its definition says. [`client`] answers one input on a log text as
+//! the one-thread store does: it gives the replies and the text that is left, without any part of the system that it is
+//! compared with but the decoder. [`check`] reads the transcript of a session and says whether one store explains it, or else its
+//! first fault, as the auditor's rules in `specs/` name it; [`the_verdict_is_whole`] is their law: they name no fault exactly
+//! where the session was whole. [`count_requests`] counts what an input asks, and [`summary`] is the line that sums up the inputs
+//! and the log of a bench. Nothing here starts a thread, and every call returns.
 //! Inside, `transcript` and `entries` read the text, `hearing` and `ask` what was replied and asked; `places`, `ahead` and
 //! `turns` judge the sequence numbers of workers, `past`, `book` and `replying` the answers by the records of the log,
 //! `falling` the versions along a link; `judging`, `each_link` and `each_record` put these together in order.
@@ -32,6 +33,7 @@ mod one_link;
 mod past;
 mod places;
 mod replying;
+mod summing;
 #[cfg(test)]
 mod tests;
 mod text_store;
@@ -43,3 +45,4 @@ pub use checking::{CheckEnd, CheckRefusal, check};
 pub use dealing::generate;
 pub use laws::the_verdict_is_whole;
 pub use one_link::client;
+pub use summing::{MAX_SUMMARY_BYTES, Tally, count_requests, summary};

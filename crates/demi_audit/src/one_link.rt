@@ -6,7 +6,7 @@ ghost use Rattle.demi_spec.specs.Record.{Record, records, entries_of};
 ghost use Rattle.demi_audit.specs.Client.{headed, output_on, added_on};
 ghost use Rattle.demi_audit.specs.TextStores.{Answered, AnswersAll, Keeps, reply_on};
 
-use crate::input_reader::{InputReader, Turn};
+use crate::input_reader::{InputReader, Next};
 use crate::text_store::TextStore;
 use demi_core::NoMemory;
 use demi_frame::{BYE, Decoder, FOUND, FULL, MISSING, REFUSED, STORED, reply_head};
@@ -89,24 +89,24 @@ fn serve(
     let mut count = 0;
     'serving: loop {
         match reader.next() {
-            Turn::Put => {
+            Next::Put => {
                 let (key, value) = (reader.key(), reader.value());
                 answer_put(&mut output, store, limit, count, key, value)?;
                 count += 1;
             }
-            Turn::Get => {
+            Next::Get => {
                 answer_get(&mut output, store, count, reader.key())?;
                 count += 1;
             }
-            Turn::End => {
+            Next::End => {
                 say(&mut output, BYE, count, 0, &[])?;
                 return Ok(output);
             }
-            Turn::Refused(code) => {
+            Next::Refused(code) => {
                 say(&mut output, REFUSED, count, 0, &[code])?;
                 return Ok(output);
             }
-            Turn::Clean => return Ok(output),
+            Next::Clean => return Ok(output),
         }
     }
 }

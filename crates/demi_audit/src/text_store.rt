@@ -65,8 +65,8 @@ fn index_entry(
     values.set(alloc, key, span)
 }
 
-// The entries of a log text of records.
-fn ends_of(alloc: Global, text: &[u8]) -> Result<Vec<usize>, NoMemory>
+/// Where the entries of a log text of records end.
+pub(crate) fn ends_of(alloc: Global, text: &[u8]) -> Result<Vec<usize>, NoMemory>
     requires { (old : List Record) × (records text.now ≡ Ok old) }
     ensures { IfOk result (λ ends. (old : List Record) → records text.now ≡ Ok old → Logs text.now ends.items old) }
 {

@@ -2,7 +2,7 @@ use Rattle.std.proofs.Common.{◌≡◌, ◌∙◌, ap, sym, ℕ, ◌-◌, List,
 use Rattle.std.proofs.lemmas.List.{take_rest}
 use Rattle.demi_spec.specs.Input.{front}
 use Rattle.demi_frame.specs.Decoding.{Decoding, code_of, finish_of}
-use Rattle.demi_audit.proofs.InputTurns.{clean_left, fed_few, fed_more, fed_piece, none_left, refused_left}
+use Rattle.demi_audit.proofs.Feeding.{clean_left, fed_few, fed_more, fed_piece, none_left, refused_left}
 use Rattle.demi_audit.proofs.input_reader.InputReader.next.Goals as goal
 
 pub returns-in-None : goal.returns-in-None

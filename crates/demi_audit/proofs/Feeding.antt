@@ -1,10 +1,9 @@
 -- What stands next in an input that is in memory.
-use Rattle.std.proofs.Common.{◌≡◌, ℕ, ◌+◌, ◌≤◌, true, false, List, [], ◌∷◌, ◌++◌, length, take, drop, min, ◌-◌, length-take, Some, None, refl, ap, sym, ◌∙◌, arith, append_assoc}
+use Rattle.std.proofs.Common.{◌≡◌, ℕ, ◌+◌, ◌≤◌, true, false, List, [], ◌∷◌, ◌++◌, length, take, drop, min, ◌-◌, length-take, None, refl, ap, sym, ◌∙◌, arith, append_assoc}
 use Rattle.std.specs.Prelude.{Bool, ◌==◌}
 use Rattle.std.proofs.lemmas.Bool.Decides.{nat_tests}
 use Rattle.std.proofs.lemmas.List.{append-nil, take-append-drop, drop-drop, nil_from_length, take-take, take_rest}
-use Rattle.demi_spec.specs.Request.{Request}
-use Rattle.demi_spec.specs.Input.{Clean, Refused, Open, Ends, Takes, front}
+use Rattle.demi_spec.specs.Input.{Clean, Refused, Open, Ends, front}
 use Rattle.demi_spec.proofs.Fronts.{open_ends, refused_ends, refused_more, ending_of}
 use Rattle.demi_frame.specs.Decoding.{code_of}
 
