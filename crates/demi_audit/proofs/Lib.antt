@@ -24,3 +24,4 @@ pub mod Judgings
 pub mod EachLink
 pub mod EachRecord
 pub mod Checks
+pub mod CheckExamples
