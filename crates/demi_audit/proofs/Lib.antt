@@ -31,3 +31,4 @@ pub mod Checks
 pub mod Feeding
 pub mod Counting
 pub mod Sizes
+pub mod CheckExamples
