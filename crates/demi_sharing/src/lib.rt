@@ -1,2 +1,9 @@
 //! How the links of a session are shared out to its workers: by their numbers, through queue 0 of the memory queues.
+//!
+//! Where the port of the memory queues is closed, and each worker's pass did what a worker does there, each link has
+//! exactly one worker, and it is the one that noted the link's number.
 #![tactic(auto)]
+
+mod closing;
+
+pub use closing::a_closed_port_shared_out;

@@ -1,0 +1,6 @@
+mod Closes
+mod Deeds
+mod Doing
+mod Lists
+mod Ran
+mod Worked
