@@ -140,5 +140,30 @@ module _ (links : ℕ) (taken : List (List ℕ)) (id : PortId HeapId) (seat : De
       let among = all_at (Notes numbers) w.deeds d.index (Pop 0, d.out) w.are.noted d.done g.item (ap (λ (o : MemOut). (Pop 0, o)) out) in
       subst (λ (k : ℕ). Among k numbers) g.number among
 
-  pub shared_out : SharedOut links seat.passes taken end.history
-  shared_out = record { shared = shared; each = many; got = got; noted = noted }
+  taken_by : (l n : ℕ) → Got end.history l n → (numbers : List ℕ) × (slice_get taken n ≡ Some numbers)
+  taken_by l n g =
+      let less : n < seat.passes = closed.ends.entries g.place (n, (g.done.token, Pop 0)) (get_elem end.history g.place (n, (g.done.token, Pop 0)) g.done.here) in
+      let m = many in
+      get_some taken n (omega arith)
+
+  -- given that each link has one worker by the numbers that passed
+  pub shared_out : ((l : ℕ) → 0 < seat.passes → l < links → (n : ℕ) × Got end.history l n)
+      → ((l n m : ℕ) → Got end.history l n → Got end.history l m → n ≡ m)
+      → ((l n : ℕ) → Got end.history l n → l < links) → SharedOut links seat.passes taken end.history
+  shared_out some one below = record {
+    shared = shared;
+    each = many;
+    got = got;
+    noted = noted;
+    some = λ l less. (
+        let m = many in
+        let there = some_worker links taken passes closed.took in
+        let g = some l (omega arith) less in
+        let k = taken_by l g.0 g.1 in
+        (g.0, k.0, k.1, noted g.0 l k.0 k.1 g.1));
+    one = λ l n m numbers others at to a b. one l n m (got n l numbers at a) (got m l others to b);
+    below = λ l n numbers at a. below l n (got n l numbers at a);
+  }
+
+  pub are_shared : Shared links seat.passes end.history
+  are_shared = shared

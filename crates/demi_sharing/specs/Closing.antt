@@ -1,5 +1,5 @@
 -- The port of the memory queues where it is closed, after the workers of a session took up its links.
-use Rattle.std.specs.Prelude.{◌≡◌, ℕ, ◌+◌, List, [], ◌∷◌, length, slice_get, Some, true, false}
+use Rattle.std.specs.Prelude.{◌≡◌, ℕ, ◌+◌, ◌<◌, List, [], ◌∷◌, length, slice_get, Some, true, false}
 use Rattle.demi_closed.specs.Closed.{Added}
 use Rattle.demi_heap.specs.Seen.{HeapId}
 use Rattle.demi_link.specs.Sights.{side_of}
@@ -46,9 +46,13 @@ pub record ClosedShares (links : ℕ) (taken : List (List ℕ)) (id : PortId Hea
   pub workers : seat.passes ≡ length passes
   pub took : AllTook links taken passes
 
--- The numbers of so many links were shared out to so many workers, and each took up just those that its pops got.
+-- The numbers of so many links were shared out to so many workers, and each took up just those that its pops got: so each link was taken up by
+-- one worker, and nothing else was.
 pub record SharedOut (links workers : ℕ) (taken : List (List ℕ)) (history : List MemEntry) : Type 0 where
   pub shared : Shared links workers history
   pub each : length taken ≡ workers
   pub got : (n l : ℕ) (numbers : List ℕ) → slice_get taken n ≡ Some numbers → Among l numbers → Got history l n
   pub noted : (n l : ℕ) (numbers : List ℕ) → slice_get taken n ≡ Some numbers → Got history l n → Among l numbers
+  pub some : (l : ℕ) → l < links → (n : ℕ) × (numbers : List ℕ) × (slice_get taken n ≡ Some numbers) × Among l numbers
+  pub one : (l n m : ℕ) (numbers others : List ℕ) → slice_get taken n ≡ Some numbers → slice_get taken m ≡ Some others → Among l numbers → Among l others → n ≡ m
+  pub below : (l n : ℕ) (numbers : List ℕ) → slice_get taken n ≡ Some numbers → Among l numbers → l < links
