@@ -3,4 +3,5 @@ mod Deeds
 mod Doing
 mod Lists
 mod Ran
+mod Setting
 mod Worked

@@ -5,5 +5,7 @@
 #![tactic(auto)]
 
 mod closing;
+mod opening;
 
 pub use closing::a_closed_port_shared_out;
+pub use opening::ask_for_queue;
