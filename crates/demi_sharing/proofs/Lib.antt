@@ -1,6 +1,7 @@
 mod Closes
 mod Deeds
 mod Doing
+mod Learnt
 mod Lists
 mod Ran
 mod Setting

@@ -8,4 +8,4 @@ mod closing;
 mod opening;
 
 pub use closing::a_closed_port_shared_out;
-pub use opening::ask_for_queue;
+pub use opening::{ask_for_queue, learn_of_queue};
