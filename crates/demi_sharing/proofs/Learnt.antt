@@ -2,7 +2,7 @@
 use Rattle.std.proofs.Common.{◌≡◌, ℕ, zero, suc, ◌<◌, List, [], ◌∷◌, None, Option, length, map, get_or, refl, arith, ◌∙◌, sym, subst}
 use Rattle.demi_context.specs.ContextPorts.{Caller, Whole, side_at}
 use Rattle.demi_pdpix.specs.Notes.{all_learnt, all_noted, each_learnt, noted}
-use Rattle.demi_pdpix.specs.Owing.{AreDue, IsDue, IsFirstDue}
+use Rattle.demi_pdpix.specs.Owing.{IsDue, IsFirstDue}
 use Rattle.demi_pdpix.specs.Seen.{IsOf}
 use Rattle.demi_port.specs.Seen.{PassValue}
 use Rattle.demi_port_core.specs.declared.place.QToken.{QToken}

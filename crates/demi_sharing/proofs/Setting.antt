@@ -1,9 +1,9 @@
 -- A caller that asked for a queue is set out.
-use Rattle.std.proofs.Common.{◌≡◌, ℕ, List, [], ◌∷◌, ◌++◌, None, Some, refl, ◌∙◌, ap, sym, subst}
+use Rattle.std.proofs.Common.{◌≡◌, ℕ, List, [], ◌∷◌, ◌++◌, None, Some, ◌∙◌, ap, sym}
 use Rattle.demi_context.proofs.ContextOwing.{along, submits_owes}
 use Rattle.demi_context.proofs.ContextSides.{submitted_side}
 use Rattle.demi_context.proofs.Halting.{only_memory}
-use Rattle.demi_context.specs.ContextPorts.{Caller, Whole, side_at}
+use Rattle.demi_context.specs.ContextPorts.{Caller, Whole}
 use Rattle.demi_context.specs.Halting.{HasLooked}
 use Rattle.demi_link.specs.Sights.{Side, Submits, side_of}
 use Rattle.demi_memq.specs.declared.op.MemOp.{MemOp}
@@ -13,7 +13,6 @@ use Rattle.demi_pdpix.specs.Calls.{Submits as CallSubmits}
 use Rattle.demi_pdpix.specs.Kinds.{kind_of}
 use Rattle.demi_pdpix.specs.Owing.{due_at, one_more_at}
 use Rattle.demi_pdpix.specs.Seen.{IsOf}
-use Rattle.demi_pdpix.specs.declared.kind.PortKind.{PortKind}
 use Rattle.demi_pdpix.specs.declared.kind.PortKind.TheVariants.{Memory}
 use Rattle.demi_port_core.specs.declared.place.QToken.{QToken}
 use Rattle.demi_sharing.specs.Dealing.{MemSide}

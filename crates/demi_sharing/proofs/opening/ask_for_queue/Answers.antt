@@ -1,7 +1,6 @@
 use Rattle.std.proofs.Common.{refl, subst, sym}
 use Rattle.demi_context.proofs.Halting.{looked_on, looked_same, none_looked}
 use Rattle.demi_context.specs.Halting.{HasLooked}
-use Rattle.demi_memq.specs.declared.op.MemOp.TheVariants.{Queue}
 use Rattle.demi_pdpix.specs.Seen.{IsOf}
 use Rattle.demi_pdpix.specs.declared.kind.PortKind.TheVariants.{Memory}
 use Rattle.demi_sharing.proofs.Setting.{set_out}
