@@ -17,7 +17,7 @@ use crate::team::Team;
 use demi_bell::Bells;
 use demi_core::NoMemory;
 use demi_device::Device;
-use demi_port::{Port, PortPass};
+use demi_port::{DEVICE_YIELDS, Port, PortPass};
 use demi_port_core::Doubles;
 use std::alloc::Global;
 use std::io;
@@ -199,7 +199,7 @@ pub fn run<R: Threads + Clock + Wait + Sync>(
         teams.destroy_empty();
         return Ok(None);
     };
-    port.hear(heard);
+    port.hear(heard, DEVICE_YIELDS);
     let mut device = match Device::make(alloc, Doubler::new(), seat, TOKENS) {
         Ok(device) => device,
         Err((_engine, seat)) => {

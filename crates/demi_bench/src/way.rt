@@ -8,7 +8,7 @@ use crate::doubler::{Doubler, TOKENS};
 use crate::port_loop::close_unused;
 use demi_bell::Bells;
 use demi_device::Device;
-use demi_port::{DeviceSeat, Port, PortPass};
+use demi_port::{DEVICE_YIELDS, DeviceSeat, Port, PortPass};
 use demi_port_core::{Bits, Doubles, Mask};
 use std::alloc::Global;
 use std::marker::{Brand, Model};
@@ -89,7 +89,7 @@ impl Way {
             return None;
         };
         let mut way = Way::open(alloc)?;
-        way.port.hear(heard);
+        way.port.hear(heard, DEVICE_YIELDS);
         Some(way)
     }
 

@@ -31,10 +31,11 @@ impl<L: Law> Model for Lane<L> {
 }
 
 impl<L: Law> Lane<L> {
-    // A new port that rings these bells, all of whose passes are at home.
+    // A new port that rings these bells, all of whose passes are at home. Its device yields so many times before it sleeps.
     pub(crate) fn make<N: Basis<L::Base>>(
         alloc: Global,
         bells: &Arc<Bells, Global>,
+        yields: u32,
         tokens: u32,
         callers: u32,
     ) -> Result<(Lane<L>, DeviceSeat<L>), NoMemory>
@@ -45,7 +46,7 @@ impl<L: Law> Lane<L> {
     {
         let heard = Arc::try_clone(bells)?;
         let (mut port, home, seat) = Port::<L>::make::<N>(alloc, tokens, callers)?;
-        port.hear(heard);
+        port.hear(heard, yields);
         Ok((
             Lane {
                 port,

@@ -19,7 +19,7 @@ use demi_core::NoMemory;
 use demi_heap::Heap;
 use demi_logq::{LogBase, LogLaw};
 use demi_memq::MemLaw;
-use demi_port::DeviceSeat;
+use demi_port::{DEVICE_YIELDS, DeviceSeat};
 use demi_port_core::{Basis, Law};
 use demi_streamq::{RxLaw, TxLaw};
 use std::alloc::Global;
@@ -122,7 +122,7 @@ fn open_ports<X: Law, N: Basis<X::Base>, J: Basis<LogBase>>(
     ensures seats { IfOk result (λ r. (length r.1.journal.items ≡ journals) × (length r.1.rx.items ≡ links) × (length r.1.tx.items ≡ links)) }
 {
     let (memory, memory_seat) = memory_on(alloc, heap, fit)?;
-    match Lane::<X>::make::<N>(alloc, fit.bells, fit.tokens, fit.callers) {
+    match Lane::<X>::make::<N>(alloc, fit.bells, fit.yields, fit.tokens, fit.callers) {
         Ok((service, service_seat)) => match open_sides::<J>(alloc, heap, fit, journals, links) {
             Ok(sides) => Ok(with_sides(memory, memory_seat, service, service_seat, sides)),
             Err(NoMemory) => {
@@ -135,6 +135,20 @@ fn open_ports<X: Law, N: Basis<X::Base>, J: Basis<LogBase>>(
             memory.end_new(memory_seat);
             Err(NoMemory)
         }
+    }
+}
+
+// Up to so many links the devices are about as many as processors.
+const FEW_LINKS: u32 = 2;
+
+// How often a device yields before it sleeps where links are few: some hundred microseconds, several times what a wake takes.
+const YIELDS_OF_FEW: u32 = 600;
+
+fn yields_for(links: u32) -> u32 {
+    if links <= FEW_LINKS {
+        YIELDS_OF_FEW
+    } else {
+        DEVICE_YIELDS
     }
 }
 
@@ -188,6 +202,7 @@ impl<X: Law> Demi<X> {
         let (heap, mut passes) = Heap::make(alloc, plan.counts, passes)?;
         let fit = Fit {
             bells: &bells,
+            yields: yields_for(plan.links),
             tokens: plan.tokens,
             callers: plan.callers,
         };

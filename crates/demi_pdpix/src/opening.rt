@@ -16,10 +16,11 @@ use std::alloc::Global;
 use std::marker::Brand;
 use std::sync::Arc;
 
-// How ports are made: the bells that they ring, and how many tokens and passes each has.
+// How ports are made: the bells that they ring, how often a device yields before it sleeps, and how many tokens and passes each has.
 #[derive(Clone, Copy)]
 pub(crate) struct Fit<'b> {
     pub(crate) bells: &'b Arc<Bells, Global>,
+    pub(crate) yields: u32,
     pub(crate) tokens: u32,
     pub(crate) callers: u32,
 }
@@ -57,7 +58,7 @@ fn open_each<L: Law, N: Basis<L::Base>>(
         return Err(NoMemory);
     };
     for _ in 0..count {
-        match Lane::<L>::make::<N>(alloc, fit.bells, fit.tokens, fit.callers) {
+        match Lane::<L>::make::<N>(alloc, fit.bells, fit.yields, fit.tokens, fit.callers) {
             Ok((lane, seat)) => {
                 lanes.push_reserved(lane);
                 seats.push_reserved(seat);
@@ -81,7 +82,7 @@ fn memory_at<N: Basis<MemBase>>(
     ensures { IfOk result (λ r. IsNewLane heap.now fit.now.tokens fit.now.callers r.0 r.1) }
 {
     let _ = heap;
-    Lane::<MemLaw>::make::<N>(alloc, fit.bells, fit.tokens, fit.callers)
+    Lane::<MemLaw>::make::<N>(alloc, fit.bells, fit.yields, fit.tokens, fit.callers)
 }
 
 // The port of memory queues, on this heap.

@@ -78,6 +78,7 @@ impl<L: Law> Port<L> {
             tables,
             device: _,
             callers: _,
+            yields: _,
         } = self;
         let (tickets, pair) = tables.close(pair, passes);
         PortEnd { tickets, pair, key }

@@ -13,6 +13,8 @@ pub struct Port<L: Law> {
     pub(crate) device: Bell,
     // Where callers sleep, which a finish rings.
     pub(crate) callers: Arc<Bells, Global>,
+    // How often the device lets other threads run before it sleeps.
+    pub(crate) yields: u32,
 }
 
 impl<L: Law> Model for Port<L> {

@@ -11,18 +11,20 @@ use std::hint::spin_loop;
 use std::sync::{Arc, Wait};
 use std::thread::yield_now;
 
-/// How often a device lets other threads run before it sleeps: less often than a caller does (`demi_bell::YIELDS`). Where threads are
-/// more than processors, most of those that yield are devices, and each turn that they get for nothing is another's. With less than
-/// some 20 a device falls asleep between two operations of one caller.
-const DEVICE_YIELDS: u32 = 40;
+/// How often a device lets other threads run before it sleeps, unless `hear` says otherwise: less often than a caller does
+/// (`demi_bell::YIELDS`). Where threads are more than processors, most of those that yield are devices, and each turn that they get
+/// for nothing is another's. With less than some 20 a device falls asleep between two operations of one caller.
+pub const DEVICE_YIELDS: u32 = 40;
 
 impl<L: Law> Port<L> {
     /// From now on a finish rings these bells, which several ports may share: so a caller of many ports sleeps at one bell. The
-    /// sleepers are named by the numbers of their passes.
-    pub fn hear(&mut self, bells: Arc<Bells, Global>)
+    /// sleepers are named by the numbers of their passes. The device lets other threads run so many times before it sleeps: where
+    /// threads are fewer than processors, many yields save the wake of an operation that comes soon.
+    pub fn hear(&mut self, bells: Arc<Bells, Global>, yields: u32)
         ensures { self.new ≡ self.old }
     {
         self.callers = bells;
+        self.yields = yields;
     }
 
     /// The bells that a finish rings. A caller of many ports has a patience of its own at them; one of this port alone has `park`.
@@ -46,15 +48,17 @@ impl<L: Law> Port<L> {
         requires port { _seat.old.port ≡ self.now }
         ensures { _seat.new ≡ _seat.old }
     {
-        for look in 0..SPINS + DEVICE_YIELDS {
+        for _ in 0..SPINS {
             if self.tables.has_rung() {
                 return;
             }
-            if look < SPINS {
-                spin_loop();
-            } else {
-                yield_now();
+            spin_loop();
+        }
+        for _ in 0..self.yields {
+            if self.tables.has_rung() {
+                return;
             }
+            yield_now();
         }
         self.device.listen();
         if self.tables.has_rung() {
