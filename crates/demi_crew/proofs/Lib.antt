@@ -1,0 +1,2 @@
+mod CrewServed
+mod TakenIn
