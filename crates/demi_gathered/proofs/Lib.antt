@@ -1,0 +1,5 @@
+mod AllCome
+mod Hands
+mod LinkComes
+mod Passes
+mod Places
