@@ -12,6 +12,9 @@ use Rattle.demi_cli.specs.declared.outcome.Outcome.TheVariants as outcome
 only_warned : (o : Outcome) (mid : WorldState) → reported o mid ≡ record mid { warned = (reported o mid).warned }
 only_warned outcome.Done mid = refl
 only_warned outcome.Usage mid = refl
+only_warned outcome.NotYet mid = refl
+only_warned (outcome.BadReply link index) mid = refl
+only_warned (outcome.BadEntry version) mid = refl
 only_warned outcome.ReadFault mid = refl
 only_warned outcome.WriteFault mid = refl
 only_warned outcome.PrintFault mid = refl
@@ -27,6 +30,9 @@ same_but o mid new is = is ∙ only_warned o mid ∙ ap (λ (t : List ℕ). reco
 pub warned_of : (o : Outcome) (old mid : WorldState) → mid.warned ≡ old.warned → (reported o mid).warned ≡ (reported o old).warned
 warned_of outcome.Done old mid e = e
 warned_of outcome.Usage old mid e = refl
+warned_of outcome.NotYet old mid e = refl
+warned_of (outcome.BadReply link index) old mid e = refl
+warned_of (outcome.BadEntry version) old mid e = refl
 warned_of outcome.ReadFault old mid e = refl
 warned_of outcome.WriteFault old mid e = refl
 warned_of outcome.PrintFault old mid e = refl

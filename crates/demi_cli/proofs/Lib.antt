@@ -10,3 +10,6 @@ pub mod Examples
 pub mod Says
 pub mod HeadReads
 pub mod Lists
+pub mod Tasks
+pub mod Checked
+pub mod Pieces

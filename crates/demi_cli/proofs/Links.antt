@@ -17,7 +17,7 @@ use Rattle.demi_server.specs.declared.outcome.Outcome.{Outcome as SessionOutcome
 use Rattle.demi_spec.specs.Input.{Asked, Open}
 use Rattle.demi_store.specs.Laws.{StoreBasis}
 use Rattle.demi_cli.specs.Run.{outcome_at_end, status_by}
-use Rattle.demi_cli.specs.Serving.{Finished, Stopped, limit, records_of, refused_code, replies_to, text_to}
+use Rattle.demi_cli.specs.Serving.{Finished, Stopped, records_of, refused_code, replies_to, text_to}
 use Rattle.demi_cli.specs.Sessions.{SessionEnds, SessionOver, as_outcome, outcome_by}
 use Rattle.demi_cli.specs.declared.outcome.Outcome.{Outcome}
 use Rattle.demi_cli.proofs.Since.{LinkOver}
@@ -86,7 +86,7 @@ closed cause.Lost done = absurd done
 first_is : {A : Type 0} (x y : A) → x ∷ [] ≡ y ∷ [] → x ≡ y
 first_is x y e = cc
 
-module _ (link kept : Link) (log kept_log : Log) (o : SessionOutcome) (ends : SessionEnds) (r : SessionOver link kept log kept_log o ends) where
+module _ (limit : ℕ) (link kept : Link) (log kept_log : Log) (o : SessionOutcome) (ends : SessionEnds) (r : SessionOver limit link kept log kept_log o ends) where
   abbrev base : StoreBasis
   base = record { records = r.old; limit = limit; told = tells log.bytes }
 
@@ -96,7 +96,7 @@ module _ (link kept : Link) (log kept_log : Log) (o : SessionOutcome) (ends : Se
       subst (λ (x : Link × Link). LinkOver base (link, link) x log.faults kept_log.faults r.why ends.service r.one.rx_end r.one.tx_end r.records) (sym (first_is (kept, kept) r.one.now r.one.is))
       (subst (λ (x : Link × Link). LinkOver base x r.one.now log.faults kept_log.faults r.why ends.service r.one.rx_end r.one.tx_end r.records) (sym (first_is (link, link) r.one.link r.one.was)) r.served)
 
-  pub finished : IsDone r.why → Finished (tells log.bytes) r.old link kept log kept_log (refused_code (ending_of r.why))
+  pub finished : IsDone r.why → Finished limit (tells log.bytes) r.old link kept log kept_log (refused_code (ending_of r.why))
   finished done =
       let s = over in
       let e = s.to_end done in record {
@@ -112,13 +112,13 @@ module _ (link kept : Link) (log kept_log : Log) (o : SessionOutcome) (ends : Se
         closed = closed r.why done;
         code_is = refl;
         says = s.moved.written_is;
-        all = λ t. s.served.all_output t done ∙ ap (λ (a : List Asked). text_to r.old a) s.served.link.asks;
-        added = λ t. s.served.all_records t done ∙ ap (λ (a : List Asked). records_of r.old a) s.served.link.asks;
+        all = λ t. s.served.all_output t done ∙ ap (λ (a : List Asked). text_to limit r.old a) s.served.link.asks;
+        added = λ t. s.served.all_records t done ∙ ap (λ (a : List Asked). records_of limit r.old a) s.served.link.asks;
         grew = r.grew;
         whole = r.settled done;
       }
 
-  pub stopped : ((l : LinkRun) (e : LinkPorts) (t : Talk) → LinkEnded l e t → TornTalk l t) → Stopped (tells log.bytes) r.old link kept log kept_log
+  pub stopped : ((l : LinkRun) (e : LinkPorts) (t : Talk) → LinkEnded l e t → TornTalk l t) → Stopped limit (tells log.bytes) r.old link kept log kept_log
   stopped law =
       let s = over in
       let n : ℕ = length s.served.talk.replies in
@@ -132,8 +132,8 @@ module _ (link kept : Link) (log kept_log : Log) (o : SessionOutcome) (ends : Se
         at_end = s.moved.ended_is.none;
         says = s.moved.written_is;
         torn = torn.written;
-        due = λ t. s.served.replies t ∙ ap (λ (a : List Asked). take n (replies_to r.old a)) s.served.link.asks;
-        front = λ t. subst (λ (a : List Asked). StartsWith (text_to r.old a) s.run.written) s.served.link.asks (s.served.output t);
-        added = λ t. subst (λ (a : List Asked). (drop (length r.old) r.records ≡ records_of r.old (take n a)) ⊎ (drop (length r.old) r.records ≡ records_of r.old (take (n + 1) a))) s.served.link.asks (s.served.records_are t);
+        due = λ t. s.served.replies t ∙ ap (λ (a : List Asked). take n (replies_to limit r.old a)) s.served.link.asks;
+        front = λ t. subst (λ (a : List Asked). StartsWith (text_to limit r.old a) s.run.written) s.served.link.asks (s.served.output t);
+        added = λ t. subst (λ (a : List Asked). (drop (length r.old) r.records ≡ records_of limit r.old (take n a)) ⊎ (drop (length r.old) r.records ≡ records_of limit r.old (take (n + 1) a))) s.served.link.asks (s.served.records_are t);
         grew = r.grew;
       }

@@ -25,6 +25,9 @@ unread outcome.LogFault log kept u = u.0
 unread outcome.NoMemory log kept u = tt
 unread outcome.Done log kept u = u
 unread outcome.Usage log kept u = u
+unread outcome.NotYet log kept u = u
+unread (outcome.BadReply link index) log kept u = u
+unread (outcome.BadEntry version) log kept u = u
 unread outcome.ReadFault log kept u = u
 unread outcome.WriteFault log kept u = u
 unread outcome.PrintFault log kept u = u
@@ -42,6 +45,9 @@ unread_since outcome.LogFault log mid kept same later u = omega (arith, u)
 unread_since outcome.NoMemory log mid kept same later u = tt
 unread_since outcome.Done log mid kept same later u = u
 unread_since outcome.Usage log mid kept same later u = u
+unread_since outcome.NotYet log mid kept same later u = u
+unread_since (outcome.BadReply link index) log mid kept same later u = u
+unread_since (outcome.BadEntry version) log mid kept same later u = u
 unread_since outcome.ReadFault log mid kept same later u = u
 unread_since outcome.WriteFault log mid kept same later u = u
 unread_since outcome.PrintFault log mid kept same later u = u
@@ -49,13 +55,13 @@ unread_since (outcome.Refused code) log mid kept same later u = u
 unread_since outcome.CannotOpen log mid kept same later u = u
 
 -- nothing but what was said and warned changed
-told : (mid new : WorldState) (said : Option (List ℕ)) (warned : List ℕ) → new ≡ record mid { said = said; warned = warned } → SameButTold mid new
+pub told : (mid new : WorldState) (said : Option (List ℕ)) (warned : List ℕ) → new ≡ record mid { said = said; warned = warned } → SameButTold mid new
 told mid new said warned is =
     is ∙ ap (λ x. record mid { said = x; warned = warned }) (sym (ap (λ (w : WorldState). w.said) is))
     ∙ ap (λ x. record mid { said = new.said; warned = x }) (sym (ap (λ (w : WorldState). w.warned) is))
 
 -- the log that the world keeps
-abbrev log_of : (old mid new : WorldState) (name : List ℕ) (k : KeepsOne old mid name) → SameButTold mid new → LogOf old new name
+abbrev pub log_of : (old mid new : WorldState) (name : List ℕ) (k : KeepsOne old mid name) → SameButTold mid new → LogOf old new name
 log_of old mid new name k same = record {
   log = k.log;
   kept = k.kept;
@@ -205,6 +211,9 @@ facts outcome.CannotOpen n old mid new name f0 f1 p0 p1 l status is =
       warned = (outcome.CannotOpen, status, (λ e. cc), ap (λ (w : WorldState). w.warned) is);
     }
 facts outcome.Usage n old mid new name f0 f1 p0 p1 l status is = absurd l
+facts outcome.NotYet n old mid new name f0 f1 p0 p1 l status is = absurd l
+facts (outcome.BadReply link index) n old mid new name f0 f1 p0 p1 l status is = absurd l
+facts (outcome.BadEntry version) n old mid new name f0 f1 p0 p1 l status is = absurd l
 facts outcome.ReadFault n old mid new name f0 f1 p0 p1 l status is = absurd l
 facts outcome.WriteFault n old mid new name f0 f1 p0 p1 l status is = absurd l
 facts (outcome.Refused code) n old mid new name f0 f1 p0 p1 l status is = absurd l
@@ -216,6 +225,9 @@ listed_unread outcome.LogFault old mid name f0 f1 p0 p1 k u = (k, u)
 listed_unread outcome.NoMemory old mid name f0 f1 p0 p1 k u = inr k
 listed_unread outcome.Done old mid name f0 f1 p0 p1 k u = absurd u
 listed_unread outcome.Usage old mid name f0 f1 p0 p1 k u = absurd u
+listed_unread outcome.NotYet old mid name f0 f1 p0 p1 k u = absurd u
+listed_unread (outcome.BadReply link index) old mid name f0 f1 p0 p1 k u = absurd u
+listed_unread (outcome.BadEntry version) old mid name f0 f1 p0 p1 k u = absurd u
 listed_unread outcome.ReadFault old mid name f0 f1 p0 p1 k u = absurd u
 listed_unread outcome.WriteFault old mid name f0 f1 p0 p1 k u = absurd u
 listed_unread outcome.PrintFault old mid name f0 f1 p0 p1 k u = absurd u

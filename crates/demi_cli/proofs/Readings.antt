@@ -8,7 +8,6 @@ use Rattle.demi_server.specs.Session.{ReadWhatWasDue}
 use Rattle.demi_cli.specs.Ended.{LinkRan}
 use Rattle.demi_cli.specs.Given.{LinkOf, SameButWarned, with_link}
 use Rattle.demi_cli.specs.Reading.{DueInRun, DueOver, GivenSource, NothingRead, ReadOnlyDue}
-use Rattle.demi_cli.specs.Serving.{limit}
 use Rattle.demi_cli.specs.Sessions.{SessionEnds, link_at}
 use Rattle.demi_cli.specs.declared.outcome.Outcome.{Outcome}
 use Rattle.demi_cli.proofs.Clauses.{kept_log_of}
@@ -52,27 +51,27 @@ module _ {I O D : Type 0} (taken : I → ℕ) (left : I → Option (List ℕ)) (
   }
 
   -- what a session read of its link
-  only_due : (p q : I × O) (before after : List (I × O)) (log : D) → before ≡ p ∷ [] → after ≡ q ∷ []
+  only_due : (limit : ℕ) (p q : I × O) (before after : List (I × O)) (log : D) → before ≡ p ∷ [] → after ≡ q ∷ []
       → (r : ReadWhatWasDue taken left read_faults reads written write_faults bytes held faults limit before after log)
-      → ReadOnlyDue reads (tells (bytes log)) r.old p.0 q.0 (seen p) (seen q)
-  only_due p q before after log was is r =
+      → ReadOnlyDue limit reads (tells (bytes log)) r.old p.0 q.0 (seen p) (seen q)
+  only_due limit p q before after log was is r =
       let p_is : r.link ≡ p = first_is r.link p (sym r.was ∙ was) in
       let q_is : r.now ≡ q = first_is r.now q (sym r.is ∙ is) in
-      subst (λ (x : I × O). ReadOnlyDue reads (tells (bytes log)) r.old p.0 x.0 (seen p) (seen x)) q_is
-      (subst (λ (x : I × O). ReadOnlyDue reads (tells (bytes log)) r.old x.0 r.now.0 (seen x) (seen r.now)) p_is
+      subst (λ (x : I × O). ReadOnlyDue limit reads (tells (bytes log)) r.old p.0 x.0 (seen p) (seen x)) q_is
+      (subst (λ (x : I × O). ReadOnlyDue limit reads (tells (bytes log)) r.old x.0 r.now.0 (seen x) (seen r.now)) p_is
       (record { run = r.run; took = record { left = r.moved.left_is; count = r.moved.taken_is }; says = r.moved.written_is; due = r.due }))
 
-  pub link_reads : {E : Type 0} (ends : Option E) (rest : Type 0) (next kept : ℕ → I → Type 0) (p q : I × O) (before after : List (I × O)) (w0 w1 w2 : WorldState) (log : D)
+  pub link_reads : (limit : ℕ) {E : Type 0} (ends : Option E) (rest : Type 0) (next kept : ℕ → I → Type 0) (p q : I × O) (before after : List (I × O)) (w0 w1 w2 : WorldState) (log : D)
       → before ≡ p ∷ [] → after ≡ q ∷ [] → w1 ≡ after_links w0 (seen p ∷ []) → w2 ≡ after_keep_link w1 0 (seen q) → next 0 p.0 → kept 0 q.0
       → IfNone ends ((after ≡ before) × rest) → IfSome ends (λ _. ReadWhatWasDue taken left read_faults reads written write_faults bytes held faults limit before after log)
-      → MatchOption ends (NothingRead taken left read_faults next kept w0 w2) (λ _. DueOver reads taken left read_faults next kept w0 w2 (log_at bytes held faults log))
-  link_reads None rest next kept p q before after w0 w1 w2 log was is given keeps next_is kept_is unmade due =
+      → MatchOption ends (NothingRead taken left read_faults next kept w0 w2) (λ _. DueOver limit reads taken left read_faults next kept w0 w2 (log_at bytes held faults log))
+  link_reads limit None rest next kept p q before after w0 w1 w2 log was is given keeps next_is kept_is unmade due =
       inr (sources next kept p q w0 w1 w2 given keeps next_is kept_is, ap (λ (x : I × O). x.0) (first_is q p (sym is ∙ unmade.0 ∙ was)))
-  link_reads (Some e) rest next kept p q before after w0 w1 w2 log was is given keeps next_is kept_is unmade due = record {
+  link_reads limit (Some e) rest next kept p q before after w0 w1 w2 log was is given keeps next_is kept_is unmade due = record {
     sources = sources next kept p q w0 w1 w2 given keeps next_is kept_is;
     records = due.old;
     had = due.had;
-    only = only_due p q before after log was is due;
+    only = only_due limit p q before after log was is due;
   }
 
 module _ {Source : Type 0} (reads : Source → ℕ → Option (List ℕ) → Source → Type 0) (taken : Source → ℕ) (left : Source → Option (List ℕ)) (faults : Source → ℕ) where
@@ -104,13 +103,13 @@ module _ {Source : Type 0} (reads : Source → ℕ → Option (List ℕ) → Sou
       inr (between next next' kept kept' old old' new new' same_next same_kept was is keeps s.0, s.1)
 
   -- a run over a log that was tried first
-  pub piped_reads : {E : Type 0} (ends : Option E) (see : E → SessionEnds) (o : Outcome) (next next' kept kept' : ℕ → Source → Type 0) (w0 w1 w2 w3 : WorldState) (name : List ℕ) (log mid kept_log : Log) (f0 f1 f2 f3 : ℕ)
-      → Tried w0 w1 w2 w3 name log mid kept_log f0 f1 f2 f3 → SameSources next' next → SameSources kept kept' → IfSome ends (λ e. LinkRan o w1 w2 mid kept_log (see e))
-      → MatchOption ends (NothingRead taken left faults next kept w1 w2) (λ _. DueOver reads taken left faults next kept w1 w2 mid)
-      → MatchOption ends (NothingRead taken left faults next' kept' w0 w3) (λ _. DueInRun reads taken left faults next' kept' w0 w3 name)
-  piped_reads None see o next next' kept kept' w0 w1 w2 w3 name log mid kept_log f0 f1 f2 f3 t same_next same_kept ran r =
+  pub piped_reads : (limit : ℕ) {E : Type 0} (ends : Option E) (see : E → SessionEnds) (o : Outcome) (next next' kept kept' : ℕ → Source → Type 0) (w0 w1 w2 w3 : WorldState) (name : List ℕ) (log mid kept_log : Log) (f0 f1 f2 f3 : ℕ)
+      → Tried w0 w1 w2 w3 name log mid kept_log f0 f1 f2 f3 → SameSources next' next → SameSources kept kept' → IfSome ends (λ e. LinkRan limit o w1 w2 mid kept_log (see e))
+      → MatchOption ends (NothingRead taken left faults next kept w1 w2) (λ _. DueOver limit reads taken left faults next kept w1 w2 mid)
+      → MatchOption ends (NothingRead taken left faults next' kept' w0 w3) (λ _. DueInRun limit reads taken left faults next' kept' w0 w3 name)
+  piped_reads limit None see o next next' kept kept' w0 w1 w2 w3 name log mid kept_log f0 f1 f2 f3 t same_next same_kept ran r =
       nothing_between next next' kept kept' w1 w0 w2 w3 same_next same_kept (sym (ap (λ (w : WorldState). w.given_links) t.given)) (ap (λ (w : WorldState). w.given_links) t.keeps) (ap (λ (w : WorldState). w.kept_link 0) t.keeps) r
-  piped_reads (Some e) see o next next' kept kept' w0 w1 w2 w3 name log mid kept_log f0 f1 f2 f3 t same_next same_kept ran r =
+  piped_reads limit (Some e) see o next next' kept kept' w0 w1 w2 w3 name log mid kept_log f0 f1 f2 f3 t same_next same_kept ran r =
       let all : w3 ≡ after_keep_log (with_link (Some (ran.link, ran.kept_link)) (after_log w0 name log)) name kept_log =
       t.keeps ∙ ap (λ (w : WorldState). after_keep_log w name kept_log) (ran.keeps ∙ ap (with_link (Some (ran.link, ran.kept_link))) t.given) in
       record {
@@ -119,17 +118,17 @@ module _ {Source : Type 0} (reads : Source → ℕ → Option (List ℕ) → Sou
           sources = between next next' kept kept' w1 w0 w2 w3 same_next same_kept (sym (ap (λ (w : WorldState). w.given_links) t.given)) (ap (λ (w : WorldState). w.given_links) t.keeps) (ap (λ (w : WorldState). w.kept_link 0) t.keeps) r.sources;
           records = r.records;
           had = had_since log mid t.old r.records t.same t.had r.had;
-          only = subst (λ told. ReadOnlyDue reads told r.records r.sources.before r.sources.after r.sources.of_link.link r.sources.of_link.kept) (opened_tells log mid t.same) r.only;
+          only = subst (λ told. ReadOnlyDue limit reads told r.records r.sources.before r.sources.after r.sources.of_link.link r.sources.of_link.kept) (opened_tells log mid t.same) r.only;
         };
       }
 
   -- the same to a world in which this was reported
-  pub reported_reads : {E : Type 0} (ends : Option E) (next kept kept' : ℕ → Source → Type 0) (old new new' : WorldState) (name : List ℕ) → SameSources kept kept' → SameButWarned new new'
-      → MatchOption ends (NothingRead taken left faults next kept old new) (λ _. DueInRun reads taken left faults next kept old new name)
-      → MatchOption ends (NothingRead taken left faults next kept' old new') (λ _. DueInRun reads taken left faults next kept' old new' name)
-  reported_reads None next kept kept' old new new' name same_kept same r =
+  pub reported_reads : (limit : ℕ) {E : Type 0} (ends : Option E) (next kept kept' : ℕ → Source → Type 0) (old new new' : WorldState) (name : List ℕ) → SameSources kept kept' → SameButWarned new new'
+      → MatchOption ends (NothingRead taken left faults next kept old new) (λ _. DueInRun limit reads taken left faults next kept old new name)
+      → MatchOption ends (NothingRead taken left faults next kept' old new') (λ _. DueInRun limit reads taken left faults next kept' old new' name)
+  reported_reads limit None next kept kept' old new new' name same_kept same r =
       nothing_between next next kept kept' old old new new' (λ number source. (λ is. is, λ is. is)) same_kept refl (ap (λ (w : WorldState). w.given_links) same) (ap (λ (w : WorldState). w.kept_link 0) same) r
-  reported_reads (Some e) next kept kept' old new new' name same_kept same r = record {
+  reported_reads limit (Some e) next kept kept' old new new' name same_kept same r = record {
     of_log = record {
       log = r.of_log.log;
       kept = r.of_log.kept;

@@ -13,7 +13,6 @@ use Rattle.demi_spec.specs.Record.{Record, records}
 use Rattle.demi_store.specs.Laws.{StoreBasis}
 use Rattle.demi_cli.specs.Ended.{LinkNone, LinkRan, LinkWithout, RanWith, RanWithout, Unopened}
 use Rattle.demi_cli.specs.Given.{A_log, with_link}
-use Rattle.demi_cli.specs.Serving.{limit}
 use Rattle.demi_cli.specs.Sessions.{SessionEnds, SessionOver, as_outcome, link_at}
 use Rattle.demi_cli.specs.declared.outcome.Outcome.{Outcome}
 use Rattle.demi_cli.proofs.Since.{LinkOver, refusal_since, session_since, unmade_since}
@@ -76,10 +75,10 @@ module _ {I O D : Type 0} (taken : I → ℕ) (left : I → Option (List ℕ)) (
   }
 
   -- a session over this source, this sink and this disk is one over what they tell
-  pub session_told : (p q : I × O) (before after : List (I × O)) (log kept : D) (o : SessionOutcome) (service : StoreEnd) (rxs : List RxEndValue) (txs : List TxEndValue)
+  pub session_told : (limit : ℕ) (p q : I × O) (before after : List (I × O)) (log kept : D) (o : SessionOutcome) (service : StoreEnd) (rxs : List RxEndValue) (txs : List TxEndValue)
       → before ≡ p ∷ [] → after ≡ q ∷ [] → RanOne taken left read_faults written write_faults bytes held faults limit before after log kept o service rxs txs
-      → SessionOver (seen p) (seen q) (log_at bytes held faults log) (log_at bytes held faults kept) o (record { service = service; rx = rxs; tx = txs })
-  session_told p q before after log kept o service rxs txs was is r =
+      → SessionOver limit (seen p) (seen q) (log_at bytes held faults log) (log_at bytes held faults kept) o (record { service = service; rx = rxs; tx = txs })
+  session_told limit p q before after log kept o service rxs txs was is r =
       let p_is : r.one.link ≡ p = first_is r.one.link p (sym r.one.was ∙ was) in
       let q_is : r.one.now ≡ q = first_is r.one.now q (sym r.one.is ∙ is) in
       let base : StoreBasis = record { records = r.old; limit = limit; told = tells (bytes log) } in
@@ -112,11 +111,11 @@ module _ {I O D : Type 0} (taken : I → ℕ) (left : I → Option (List ℕ)) (
   unmade_told None p q before after o log kept was is u = (ap seen (first_is q p (sym is ∙ u.0 ∙ was)), u.1)
   unmade_told (Some e) p q before after o log kept was is u = tt
 
-  pub made_told : {E : Type 0} (ends : Option E) (see : E → SessionEnds) (p q : I × O) (before after : List (I × O)) (log kept : D) (o : SessionOutcome) → before ≡ p ∷ [] → after ≡ q ∷ []
+  pub made_told : (limit : ℕ) {E : Type 0} (ends : Option E) (see : E → SessionEnds) (p q : I × O) (before after : List (I × O)) (log kept : D) (o : SessionOutcome) → before ≡ p ∷ [] → after ≡ q ∷ []
       → IfSome ends (λ e. RanOne taken left read_faults written write_faults bytes held faults limit before after log kept o (see e).service (see e).rx (see e).tx)
-      → IfSome ends (λ e. SessionOver (seen p) (seen q) (log_at bytes held faults log) (log_at bytes held faults kept) o (see e))
-  made_told None see p q before after log kept o was is r = tt
-  made_told (Some e) see p q before after log kept o was is r = session_told p q before after log kept o (see e).service (see e).rx (see e).tx was is r
+      → IfSome ends (λ e. SessionOver limit (seen p) (seen q) (log_at bytes held faults log) (log_at bytes held faults kept) o (see e))
+  made_told limit None see p q before after log kept o was is r = tt
+  made_told limit (Some e) see p q before after log kept o was is r = session_told limit p q before after log kept o (see e).service (see e).rx (see e).tx was is r
 
 -- a link that no session served, and one that one did
 pub link_none : {E : Type 0} (ends : Option E) (s : SessionOutcome) (o : Outcome) (w0 w1 w2 : WorldState) (p q : Link) (log kept : Log) (f0 f1 : ℕ) → o ≡ as_outcome s → w1 ≡ after_links w0 (p ∷ []) → w2 ≡ after_keep_link w1 0 q
@@ -128,10 +127,10 @@ link_none None s o w0 w1 w2 p q log kept f0 f1 is given keeps u = record {
 }
 link_none (Some e) s o w0 w1 w2 p q log kept f0 f1 is given keeps u = tt
 
-pub link_ran : {E : Type 0} (ends : Option E) (see : E → SessionEnds) (s : SessionOutcome) (o : Outcome) (w0 w1 w2 : WorldState) (p q : Link) (log kept : Log) → o ≡ as_outcome s → w1 ≡ after_links w0 (p ∷ []) → w2 ≡ after_keep_link w1 0 q
-    → IfSome ends (λ e. SessionOver p q log kept s (see e)) → IfSome ends (λ e. LinkRan o w0 w2 log kept (see e))
-link_ran None see s o w0 w1 w2 p q log kept is given keeps r = tt
-link_ran (Some e) see s o w0 w1 w2 p q log kept is given keeps r = record {
+pub link_ran : (limit : ℕ) {E : Type 0} (ends : Option E) (see : E → SessionEnds) (s : SessionOutcome) (o : Outcome) (w0 w1 w2 : WorldState) (p q : Link) (log kept : Log) → o ≡ as_outcome s → w1 ≡ after_links w0 (p ∷ []) → w2 ≡ after_keep_link w1 0 q
+    → IfSome ends (λ e. SessionOver limit p q log kept s (see e)) → IfSome ends (λ e. LinkRan limit o w0 w2 log kept (see e))
+link_ran limit None see s o w0 w1 w2 p q log kept is given keeps r = tt
+link_ran limit (Some e) see s o w0 w1 w2 p q log kept is given keeps r = record {
   link = p;
   kept_link = q;
   keeps = keeps ∙ ap (λ (w : WorldState). after_keep_link w 0 q) given;
@@ -169,10 +168,10 @@ pub piped_none : {E : Type 0} (ends : Option E) (o : Outcome) (w0 w1 w2 w3 : Wor
 piped_none None o w0 w1 w2 w3 name log mid kept f0 f1 f2 f3 t n = without o w0 w1 w2 w3 name log mid kept f0 f1 f2 f3 t n.link n.keeps n.at
 piped_none (Some e) o w0 w1 w2 w3 name log mid kept f0 f1 f2 f3 t n = tt
 
-pub piped_ran : {E : Type 0} (ends : Option E) (see : E → SessionEnds) (o : Outcome) (w0 w1 w2 w3 : WorldState) (name : List ℕ) (log mid kept : Log) (f0 f1 f2 f3 : ℕ) → Tried w0 w1 w2 w3 name log mid kept f0 f1 f2 f3
-    → IfSome ends (λ e. LinkRan o w1 w2 mid kept (see e)) → IfSome ends (λ e. RanWith w0 w3 name o (see e))
-piped_ran None see o w0 w1 w2 w3 name log mid kept f0 f1 f2 f3 t r = tt
-piped_ran (Some e) see o w0 w1 w2 w3 name log mid kept f0 f1 f2 f3 t r = record {
+pub piped_ran : (limit : ℕ) {E : Type 0} (ends : Option E) (see : E → SessionEnds) (o : Outcome) (w0 w1 w2 w3 : WorldState) (name : List ℕ) (log mid kept : Log) (f0 f1 f2 f3 : ℕ) → Tried w0 w1 w2 w3 name log mid kept f0 f1 f2 f3
+    → IfSome ends (λ e. LinkRan limit o w1 w2 mid kept (see e)) → IfSome ends (λ e. RanWith limit w0 w3 name o (see e))
+piped_ran limit None see o w0 w1 w2 w3 name log mid kept f0 f1 f2 f3 t r = tt
+piped_ran limit (Some e) see o w0 w1 w2 w3 name log mid kept f0 f1 f2 f3 t r = record {
   log = log;
   kept = kept;
   link = r.link;
@@ -181,6 +180,6 @@ piped_ran (Some e) see o w0 w1 w2 w3 name log mid kept f0 f1 f2 f3 t r = record 
   at = record {
     came_to = r.at.came_to;
     outcome_is = r.at.outcome_is;
-    ran = session_since r.link r.kept_link log mid kept r.at.came_to (see e) t.old t.same t.later t.had r.at.ran;
+    ran = session_since limit r.link r.kept_link log mid kept r.at.came_to (see e) t.old t.same t.later t.had r.at.ran;
   };
 }

@@ -18,7 +18,6 @@ use Rattle.demi_spec.specs.LogText.{entry, header}
 use Rattle.demi_spec.specs.Record.{Record, entries_of, log_of, payload, records}
 use Rattle.demi_store.specs.Laws.{StoreBasis}
 use Rattle.demi_cli.specs.Ended.{Refusal, Unmade, Unopened}
-use Rattle.demi_cli.specs.Serving.{limit}
 use Rattle.demi_cli.specs.Sessions.{SessionEnds, SessionOver}
 use Rattle.demi_cli.specs.declared.outcome.Outcome.{Outcome}
 use Rattle.demi_cli.specs.declared.outcome.Outcome.TheVariants as outcome
@@ -159,9 +158,9 @@ link_since base before after a b l c service rx tx rs le s = record {
   why = cause_since c before.0.read_faults after.0.read_faults before.1.write_faults after.1.write_faults a b l le s.why;
 }
 
-pub session_since : (link kept : Link) (log mid kept_log : Log) (o : SessionOutcome) (ends : SessionEnds) (old : List Record) → contents_of mid ≡ contents_of (opened_log log) → log.faults ≤ mid.faults → HadRecords log old
-    → SessionOver link kept mid kept_log o ends → SessionOver link kept log kept_log o ends
-session_since link kept log mid kept_log o ends old same later had r =
+pub session_since : (limit : ℕ) (link kept : Link) (log mid kept_log : Log) (o : SessionOutcome) (ends : SessionEnds) (old : List Record) → contents_of mid ≡ contents_of (opened_log log) → log.faults ≤ mid.faults → HadRecords log old
+    → SessionOver limit link kept mid kept_log o ends → SessionOver limit link kept log kept_log o ends
+session_since limit link kept log mid kept_log o ends old same later had r =
     let base : Bool → StoreBasis = λ t. record { records = r.old; limit = limit; told = t } in
     record {
       old = r.old;
@@ -194,6 +193,9 @@ unmade_since outcome.LogFault log mid kept old now same later had good u =
 unmade_since outcome.NoMemory log mid kept old now same later had good u = (tt, headed_same mid kept (since log mid same).some u ∙ same)
 unmade_since outcome.Done log mid kept old now same later had good u = absurd u
 unmade_since outcome.Usage log mid kept old now same later had good u = absurd u
+unmade_since outcome.NotYet log mid kept old now same later had good u = absurd u
+unmade_since (outcome.BadReply link index) log mid kept old now same later had good u = absurd u
+unmade_since (outcome.BadEntry version) log mid kept old now same later had good u = absurd u
 unmade_since outcome.ReadFault log mid kept old now same later had good u = absurd u
 unmade_since outcome.WriteFault log mid kept old now same later had good u = absurd u
 unmade_since outcome.PrintFault log mid kept old now same later had good u = absurd u
@@ -207,6 +209,9 @@ refusal_since (outcome.BadLog at) f0 f1 f2 f3 le e r = absurd r
 refusal_since outcome.LogFault f0 f1 f2 f3 le e r = absurd r
 refusal_since outcome.Done f0 f1 f2 f3 le e r = absurd r
 refusal_since outcome.Usage f0 f1 f2 f3 le e r = absurd r
+refusal_since outcome.NotYet f0 f1 f2 f3 le e r = absurd r
+refusal_since (outcome.BadReply link index) f0 f1 f2 f3 le e r = absurd r
+refusal_since (outcome.BadEntry version) f0 f1 f2 f3 le e r = absurd r
 refusal_since outcome.ReadFault f0 f1 f2 f3 le e r = absurd r
 refusal_since outcome.WriteFault f0 f1 f2 f3 le e r = absurd r
 refusal_since outcome.PrintFault f0 f1 f2 f3 le e r = absurd r

@@ -55,10 +55,10 @@ pub record NotMade (o : Outcome) (link kept_link : Link) (log kept : Log) : Type
   pub same : contents_of kept ≡ contents_of (opened_log log)
 
 -- a session ran over the link
-pub record RanTo (o : Outcome) (link kept_link : Link) (log kept : Log) (ends : SessionEnds) : Type 0 where
+pub record RanTo (limit : ℕ) (o : Outcome) (link kept_link : Link) (log kept : Log) (ends : SessionEnds) : Type 0 where
   pub came_to : SessionOutcome
   pub outcome_is : o ≡ as_outcome came_to
-  pub ran : SessionOver link kept_link log kept came_to ends
+  pub ran : SessionOver limit link kept_link log kept came_to ends
 
 -- what a link over a log that was opened comes to: no session, or one with these ends
 abbrev pub LinkWithout : Outcome → Option (Link × Link) → Log → Log → ℕ → ℕ → Type 0
@@ -70,11 +70,11 @@ pub record LinkNone (o : Outcome) (old new : WorldState) (log kept : Log) (fault
   pub keeps : new ≡ with_link link old
   pub at : LinkWithout o link log kept faults0 faults1
 
-pub record LinkRan (o : Outcome) (old new : WorldState) (log kept : Log) (ends : SessionEnds) : Type 0 where
+pub record LinkRan (limit : ℕ) (o : Outcome) (old new : WorldState) (log kept : Log) (ends : SessionEnds) : Type 0 where
   pub link : Link
   pub kept_link : Link
   pub keeps : new ≡ with_link (Some (link, kept_link)) old
-  pub at : RanTo o link kept_link log kept ends
+  pub at : RanTo limit o link kept_link log kept ends
 
 -- what stands where no session ran
 abbrev pub Without : Outcome → Gave → ℕ → ℕ → Type 0
@@ -88,10 +88,10 @@ pub record RanWithout (old new : WorldState) (faults0 faults1 : ℕ) (name : Lis
   pub keeps : KeepsAll gave name old new
   pub at : Without o gave faults0 faults1
 
-pub record RanWith (old new : WorldState) (name : List ℕ) (o : Outcome) (ends : SessionEnds) : Type 0 where
+pub record RanWith (limit : ℕ) (old new : WorldState) (name : List ℕ) (o : Outcome) (ends : SessionEnds) : Type 0 where
   pub log : Log
   pub kept : Log
   pub link : Link
   pub kept_link : Link
   pub keeps : KeepsAll (A_log log kept (Some (link, kept_link))) name old new
-  pub at : RanTo o link kept_link log kept ends
+  pub at : RanTo limit o link kept_link log kept ends

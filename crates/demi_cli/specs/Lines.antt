@@ -25,3 +25,8 @@ count_line count = codes "records " ++ decimal count ++ codes "\n"
 -- all that `log` says of a log with these records: a line of each, and how many they are
 abbrev pub log_lines : List Record → List ℕ
 log_lines records = lines_from 1 records ++ count_line (length records)
+
+-- what `check` says of a transcript that is consistent
+abbrev pub verdict_line : ℕ → ℕ → ℕ → List ℕ
+verdict_line links replies records =
+    codes "consistent: links " ++ decimal links ++ codes " replies " ++ decimal replies ++ codes " records " ++ decimal records ++ codes "\n"

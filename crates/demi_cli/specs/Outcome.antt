@@ -17,6 +17,9 @@ status_of outcome.NoMemory = 5
 status_of (outcome.Refused code) = 6
 status_of (outcome.BadLog at) = 7
 status_of outcome.CannotOpen = 8
+status_of outcome.NotYet = 1
+status_of (outcome.BadReply link index) = 9
+status_of (outcome.BadEntry version) = 9
 
 -- a code is from 1 to 5: its digit
 abbrev pub digit : ℕ → List ℕ
@@ -34,6 +37,9 @@ text_of outcome.NoMemory = codes "demi: out of memory"
 text_of (outcome.Refused code) = codes "demi: link 0 refused with code " ++ digit code
 text_of (outcome.BadLog at) = codes "demi: bad log at byte " ++ decimal at
 text_of outcome.CannotOpen = codes "demi: cannot open"
+text_of outcome.NotYet = codes "demi: serve and bench are not there yet"
+text_of (outcome.BadReply link index) = codes "demi: link " ++ decimal link ++ codes " reply " ++ decimal index ++ codes " is inconsistent"
+text_of (outcome.BadEntry version) = codes "demi: record " ++ decimal version ++ codes " is inconsistent"
 
 -- a world that was warned, where there is something to say; what else it tells stays
 abbrev pub reported : Outcome → WorldState → WorldState

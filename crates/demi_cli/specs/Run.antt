@@ -32,13 +32,13 @@ outcome_at_end (Some code) = outcome.Refused code
 
 -- The input was read to an end, all is answered on the records that the log had, and logged; the status and the warning are those of this
 -- end
-pub record FinishedRun (old new : WorldState) (name : List ℕ) (status : ℕ) : Type 0 where
+pub record FinishedRun (limit : ℕ) (old new : WorldState) (name : List ℕ) (status : ℕ) : Type 0 where
   pub of_log : LogOf old new name
   pub of_link : LinkOf old new
   pub code : Option ℕ
   pub records : List Record
   pub had : HadRecords of_log.log records
-  pub whole : Finished (tells of_log.log.bytes) records of_link.link of_link.kept of_log.log of_log.kept code
+  pub whole : Finished limit (tells of_log.log.bytes) records of_link.link of_link.kept of_log.log of_log.kept code
   pub status_is : status ≡ status_of (outcome_at_end code)
   pub warned_is : new.warned ≡ (reported (outcome_at_end code) old).warned
 
@@ -57,16 +57,16 @@ abbrev pub status_by : Cause → ℕ
 status_by why = status_of (outcome_by why)
 
 -- it stopped on the link
-pub record StoppedRun (old new : WorldState) (name : List ℕ) : Type 0 where
+pub record StoppedRun (limit : ℕ) (old new : WorldState) (name : List ℕ) : Type 0 where
   pub of_log : LogOf old new name
   pub of_link : LinkOf old new
   pub records : List Record
   pub had : HadRecords of_log.log records
-  pub stopped : Stopped (tells of_log.log.bytes) records of_link.link of_link.kept of_log.log of_log.kept
+  pub stopped : Stopped limit (tells of_log.log.bytes) records of_link.link of_link.kept of_log.log of_log.kept
 
 -- where the log tells its bytes, what was written on the link is a front of what the one-thread store on the records that the log had says
 -- to all that the bytes taken ask
-pub record FrontRun (old new : WorldState) (name : List ℕ) : Type 0 where
+pub record FrontRun (limit : ℕ) (old new : WorldState) (name : List ℕ) : Type 0 where
   pub of_log : LogOf old new name
   pub records : List Record
   pub had : HadRecords of_log.log records
@@ -76,7 +76,7 @@ pub record FrontRun (old new : WorldState) (name : List ℕ) : Type 0 where
   pub said : List ℕ
   pub took : Took of_link.link of_link.kept taken
   pub says : Says of_link.link of_link.kept said
-  pub front : tells of_log.log.bytes ≡ true → StartsWith (text_to records (asked taken ended)) said
+  pub front : tells of_log.log.bytes ≡ true → StartsWith (text_to limit records (asked taken ended)) said
 
 -- It stopped before anything of a link was read: the log, where one was given, is as it was, or was empty and has a front of its header.
 abbrev pub Unserved : Cause → WorldState → WorldState → List ℕ → Type 0

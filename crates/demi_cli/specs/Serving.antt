@@ -11,19 +11,15 @@ use Rattle.demi_spec.specs.Reply.{Reply, spelling}
 use Rattle.demi_spec.specs.Record.{Record}
 use Rattle.demi_spec.specs.Store.{serial}
 
--- the most records that a log takes
-abbrev pub limit : ℕ
-limit = 1000000
+-- the replies of the one-thread store with this limit on these records to all of these, the same spelled, and the records that it adds for them
+abbrev pub replies_to : ℕ → List Record → List Asked → List Reply
+replies_to limit old asks = (serial old limit asks).replies
 
--- the replies of the one-thread store on these records to all of these, the same spelled, and the records that it adds for them
-abbrev pub replies_to : List Record → List Asked → List Reply
-replies_to old asks = (serial old limit asks).replies
+abbrev pub text_to : ℕ → List Record → List Asked → List ℕ
+text_to limit old asks = flat_map spelling (replies_to limit old asks)
 
-abbrev pub text_to : List Record → List Asked → List ℕ
-text_to old asks = flat_map spelling (replies_to old asks)
-
-abbrev pub records_of : List Record → List Asked → List Record
-records_of old asks = (serial old limit asks).records
+abbrev pub records_of : ℕ → List Record → List Asked → List Record
+records_of limit old asks = (serial old limit asks).records
 
 -- a link gave these bytes
 pub record Took (link kept : Link) (taken : List ℕ) : Type 0 where
@@ -42,10 +38,10 @@ abbrev pub refused_code : Ending → Option ℕ
 refused_code (Refused code) = Some code
 refused_code other = None
 
--- The input was read to its end frame, to its refused frame or to its end, and the code is that of a refused frame. Where the log tells its
+-- The log may have at most this number of records. The input was read to its end frame, to its refused frame or to its end, and the code is that of a refused frame. Where the log tells its
 -- bytes the link was told exactly what the one-thread store on the old records says to all that it asked, and the log has grown by exactly
 -- the entries of the records that this adds.
-pub record Finished (told : Bool) (old : List Record) (link kept : Link) (log kept_log : Log) (code : Option ℕ) : Type 0 where
+pub record Finished (limit : ℕ) (told : Bool) (old : List Record) (link kept : Link) (log kept_log : Log) (code : Option ℕ) : Type 0 where
   pub taken : List ℕ
   -- whether the input ended, which it does only where nothing is left
   pub ended : Bool
@@ -59,15 +55,15 @@ pub record Finished (told : Bool) (old : List Record) (link kept : Link) (log ke
   pub closed : how ≢ Open
   pub code_is : code ≡ refused_code how
   pub says : Says link kept written
-  pub all : told ≡ true → written ≡ text_to old (asked taken ended)
-  pub added : told ≡ true → drop (length old) records ≡ records_of old (asked taken ended)
+  pub all : told ≡ true → written ≡ text_to limit old (asked taken ended)
+  pub added : told ≡ true → drop (length old) records ≡ records_of limit old (asked taken ended)
   pub grew : LogGrew log kept_log old records
   pub whole : grew.torn ≡ []
 
 -- It stopped. These replies were pushed, and written but for an end of the last. Where the log tells its bytes they are the first that
 -- the one-thread store on the old records has for all that was asked, and the log has the records that this adds for as many of the
 -- requests, or for one more.
-pub record Stopped (told : Bool) (old : List Record) (link kept : Link) (log kept_log : Log) : Type 0 where
+pub record Stopped (limit : ℕ) (told : Bool) (old : List Record) (link kept : Link) (log kept_log : Log) : Type 0 where
   pub taken : List ℕ
   pub ended : Bool
   pub replies : List Reply
@@ -77,9 +73,9 @@ pub record Stopped (told : Bool) (old : List Record) (link kept : Link) (log kep
   pub at_end : ended ≡ true → AtEnd kept
   pub says : Says link kept written
   pub torn : Torn written replies
-  pub due : told ≡ true → replies ≡ take (length replies) (replies_to old (asked taken ended))
-  pub front : told ≡ true → StartsWith (text_to old (asked taken ended)) written
+  pub due : told ≡ true → replies ≡ take (length replies) (replies_to limit old (asked taken ended))
+  pub front : told ≡ true → StartsWith (text_to limit old (asked taken ended)) written
   pub added : told ≡ true
-      → (drop (length old) records ≡ records_of old (take (length replies) (asked taken ended)))
-      ⊎ (drop (length old) records ≡ records_of old (take (length replies + 1) (asked taken ended)))
+      → (drop (length old) records ≡ records_of limit old (take (length replies) (asked taken ended)))
+      ⊎ (drop (length old) records ≡ records_of limit old (take (length replies + 1) (asked taken ended)))
   pub grew : LogGrew log kept_log old records

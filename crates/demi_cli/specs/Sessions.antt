@@ -9,7 +9,6 @@ use Rattle.demi_server.specs.declared.outcome.Outcome.{Outcome as SessionOutcome
 use Rattle.demi_server.specs.declared.outcome.Outcome.TheVariants as session
 use Rattle.demi_cli.specs.Given.{LinkOf, LogOf}
 use Rattle.demi_cli.specs.Outcome.{status_of}
-use Rattle.demi_cli.specs.Serving.{limit}
 use Rattle.demi_cli.specs.declared.outcome.Outcome.{Outcome}
 use Rattle.demi_cli.specs.declared.outcome.Outcome.TheVariants as outcome
 
@@ -24,10 +23,10 @@ pub record SessionEnds : Type 0 where
   pub rx : List RxEndValue
   pub tx : List TxEndValue
 
--- A session over this link and this log, as they told before it and after it, came to this outcome and has these ends: every reply and
+-- A session with this limit over this link and this log, as they told before it and after it, came to this outcome and has these ends: every reply and
 -- every record is accounted for by the histories that these have.
-abbrev pub SessionOver : Link → Link → Log → Log → SessionOutcome → SessionEnds → Type 0
-SessionOver link kept log kept_log o ends =
+abbrev pub SessionOver : ℕ → Link → Link → Log → Log → SessionOutcome → SessionEnds → Type 0
+SessionOver limit link kept log kept_log o ends =
     RanOne (λ (l : Link). l.taken) (λ (l : Link). l.left) (λ (l : Link). l.read_faults) (λ (l : Link). l.written) (λ (l : Link). l.write_faults)
     (λ (d : Log). d.bytes) (λ (d : Log). d.held) (λ (d : Log). d.faults)
     limit ((link, link) ∷ []) ((kept, kept) ∷ []) log kept_log o ends.service ends.rx ends.tx
@@ -43,12 +42,12 @@ as_outcome (session.WriteFault link) = outcome.WriteFault
 as_outcome (session.Refused link code) = outcome.Refused code
 
 -- the link and the log that the world gave and keeps, the session over them and its ends, and the status by its outcome
-pub record AccountedRun (status : ℕ) (old new : WorldState) (name : List ℕ) (ends : SessionEnds) : Type 0 where
+pub record AccountedRun (limit : ℕ) (status : ℕ) (old new : WorldState) (name : List ℕ) (ends : SessionEnds) : Type 0 where
   pub of_log : LogOf old new name
   pub of_link : LinkOf old new
   pub came_to : SessionOutcome
   pub status_is : status ≡ status_of (as_outcome came_to)
-  pub ran : SessionOver of_link.link of_link.kept of_log.log of_log.kept came_to ends
+  pub ran : SessionOver limit of_link.link of_link.kept of_log.log of_log.kept came_to ends
 
 -- a link that stopped before its input came to an end
 abbrev pub IsFault : Cause → Type 0

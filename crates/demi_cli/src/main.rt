@@ -6,7 +6,7 @@
 //! Not promised: what a real stream or file holds, that memory is found, and that threads can be started.
 #![tactic(auto)]
 
-mod command;
+mod checking;
 mod head;
 mod heads;
 mod opening;
@@ -16,6 +16,7 @@ mod printing;
 mod reading;
 mod reporting;
 mod running;
+mod task;
 #[cfg(test)]
 mod tests;
 mod tool;

@@ -10,8 +10,8 @@ use demi_logq::Log;
 use demi_store::StoreCore;
 use std::alloc::Global;
 
-/// How many records a log may have.
-pub const MAX_RECORDS: u32 = 1_000_000;
+// How many records a log may have.
+const MAX_RECORDS: u32 = 1_000_000;
 
 /// Opens a log as a store on its records and gives the disk back: an empty one has its header then. Where it is refused the disk comes
 /// back too.

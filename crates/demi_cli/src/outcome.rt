@@ -22,10 +22,16 @@ pub enum Outcome {
     NoMemory,
     /// The input has a refused frame, with its code from 1 to 5; all before it is answered. Status 6.
     Refused(u8),
-    /// The log is no text of records; this is the offset of its first bad byte. Status 7.
+    /// The log is no text of records, or the transcript is none; this is the offset of its first bad byte. Status 7.
     BadLog(u64),
     /// The world gave no log or no link. Status 8.
     CannotOpen,
+    /// The words are those of a command that is not there yet. Status 1.
+    NotYet,
+    /// The transcript is inconsistent at this reply, by its link and its index there, both from 0. Status 9.
+    BadReply(u32, u64),
+    /// The transcript is inconsistent at this record, by its number from 1. Status 9.
+    BadEntry(u64),
 }
 
 /// The outcome of a log that is refused at its opening.

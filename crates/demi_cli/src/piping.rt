@@ -7,7 +7,7 @@ ghost use Rattle.demi_cli.specs.Reading.{DueInRun, DueOver, NothingRead};
 ghost use Rattle.demi_cli.specs.Sessions.{as_outcome, link_at};
 ghost use Rattle.demi_server.specs.Logs.{log_at};
 
-use crate::opening::{MAX_RECORDS, try_log};
+use crate::opening::try_log;
 use crate::outcome::Outcome;
 use demi_core::{Halt, Site, World};
 use demi_pdpix::DemiEnd;
@@ -80,13 +80,15 @@ fn outcome_of(outcome: SessionOutcome) -> Outcome
 fn over_link<R: Threads + Wait + Sync, W: World>(
     rt: &R,
     alloc: Global,
+    limit: u32,
     log: W::Log,
     world: &mut W,
 ) -> LinkEnd<W::Log>
+    requires { (1 ≤ limit) × (limit ≤ 1000000) }
     ensures without { IfNone result.ends (LinkNone result.outcome (W.state world.old) (W.state world.new) (log_at W.Log.bytes W.Log.held W.Log.faults log) (log_at W.Log.bytes W.Log.held W.Log.faults result.log) (W.faults world.old) (W.faults world.new)) }
-    ensures ran { IfSome result.ends (λ e. LinkRan result.outcome (W.state world.old) (W.state world.new) (log_at W.Log.bytes W.Log.held W.Log.faults log) (log_at W.Log.bytes W.Log.held W.Log.faults result.log) (record { service = e.service; rx = e.rx.items; tx = e.tx.items })) }
+    ensures ran { IfSome result.ends (λ e. LinkRan limit result.outcome (W.state world.old) (W.state world.new) (log_at W.Log.bytes W.Log.held W.Log.faults log) (log_at W.Log.bytes W.Log.held W.Log.faults result.log) (record { service = e.service; rx = e.rx.items; tx = e.tx.items })) }
     ensures reads { MatchOption result.ends (NothingRead W.In.taken W.In.left W.In.faults (W.next_source world.old) (W.kept_source world.new) (W.state world.old) (W.state world.new))
-        (λ _. DueOver W.In.reads W.In.taken W.In.left W.In.faults (W.next_source world.old) (W.kept_source world.new) (W.state world.old) (W.state world.new) (log_at W.Log.bytes W.Log.held W.Log.faults log)) }
+        (λ _. DueOver limit W.In.reads W.In.taken W.In.left W.In.faults (W.next_source world.old) (W.kept_source world.new) (W.state world.old) (W.state world.new) (log_at W.Log.bytes W.Log.held W.Log.faults log)) }
     ensures later { W.Log.faults log ≤ W.Log.faults result.log }
     ensures faults { W.faults world.old ≤ W.faults world.new }
     ensures print_faults { W.print_faults world.new ≡ W.print_faults world.old }
@@ -96,10 +98,7 @@ fn over_link<R: Threads + Wait + Sync, W: World>(
         Err(Halt::Failed) => return unlinked(log, Outcome::CannotOpen),
         Err(Halt::NoMemory) => return unlinked(log, Outcome::NoMemory),
     };
-    let plan = Plan {
-        workers: 1,
-        limit: MAX_RECORDS,
-    };
+    let plan = Plan { workers: 1, limit };
     let SessionEnd {
         links,
         log,
@@ -117,17 +116,20 @@ fn over_link<R: Threads + Wait + Sync, W: World>(
 
 /// Runs `pipe` over the log of a name. It gives the outcome, and the ends of the session, where one ran.
 ///
-/// The log is opened once before the link is taken, so that a bad one takes no link.
+/// The log has at most `limit` records after it, or as many as it had. It is opened once before the link is taken, so that a bad one takes
+/// no link.
 pub fn pipe<R: Threads + Wait + Sync, W: World>(
     rt: &R,
     alloc: Global,
+    limit: u32,
     name: &str,
     world: &mut W,
 ) -> (Outcome, Option<DemiEnd<StoreLaw>>)
+    requires { (1 ≤ limit) × (limit ≤ 1000000) }
     ensures without { IfNone result.1 (RanWithout (W.state world.old) (W.state world.new) (W.faults world.old) (W.faults world.new) name.now result.0) }
-    ensures ran { IfSome result.1 (λ e. RanWith (W.state world.old) (W.state world.new) name.now result.0 (record { service = e.service; rx = e.rx.items; tx = e.tx.items })) }
+    ensures ran { IfSome result.1 (λ e. RanWith limit (W.state world.old) (W.state world.new) name.now result.0 (record { service = e.service; rx = e.rx.items; tx = e.tx.items })) }
     ensures reads { MatchOption result.1 (NothingRead W.In.taken W.In.left W.In.faults (W.next_source world.old) (W.kept_source world.new) (W.state world.old) (W.state world.new))
-        (λ _. DueInRun W.In.reads W.In.taken W.In.left W.In.faults (W.next_source world.old) (W.kept_source world.new) (W.state world.old) (W.state world.new) name.now) }
+        (λ _. DueInRun limit W.In.reads W.In.taken W.In.left W.In.faults (W.next_source world.old) (W.kept_source world.new) (W.state world.old) (W.state world.new) name.now) }
     ensures print_faults { W.print_faults world.new ≡ W.print_faults world.old }
 {
     let log = match world.log(alloc, name) {
@@ -142,7 +144,7 @@ pub fn pipe<R: Threads + Wait + Sync, W: World>(
             return (outcome, None);
         }
     };
-    let LinkEnd { log, outcome, ends } = over_link(rt, alloc, log, world);
+    let LinkEnd { log, outcome, ends } = over_link(rt, alloc, limit, log, world);
     world.keep_log(name, log);
     (outcome, ends)
 }

@@ -7,7 +7,7 @@ ghost use Rattle.demi_core.specs.Outside.{Rose};
 ghost use Rattle.demi_core.specs.World.{SameSources, after_say};
 ghost use Rattle.demi_spec.specs.Record.{Record};
 ghost use Rattle.demi_cli.specs.Heads.{HeadsOf};
-ghost use Rattle.demi_cli.specs.Lines.{count_line, line_of, log_lines};
+ghost use Rattle.demi_cli.specs.Lines.{count_line, line_of, log_lines, verdict_line};
 ghost use Rattle.demi_cli.specs.Saying.{SaidBut, SaidFront};
 
 use crate::head::Head;
@@ -165,4 +165,28 @@ pub fn say_heads<W: World>(world: &mut W, heads: &Heads) -> Result<(), Failed>
         }
     }
     say_count(world, &mut text, rows.len() as u64)
+}
+
+// Says the line of a consistent transcript.
+pub fn say_verdict<W: World>(
+    world: &mut W,
+    links: u32,
+    replies: u64,
+    records: u64,
+) -> Result<(), Failed>
+    ensures said { OnOk result (W.state world.new ≡ after_say (W.state world.old) (verdict_line links replies records)) }
+    ensures part { OnErr result (SaidFront (verdict_line links replies records) (W.state world.old) (W.state world.new)) }
+    ensures rose { OnErr result (Rose (W.print_faults world.old) (W.print_faults world.new)) }
+    ensures later { W.print_faults world.old ≤ W.print_faults world.new }
+    ensures faults { W.faults world.new ≡ W.faults world.old }
+{
+    let mut text = ArrayString::new();
+    push_number(&mut text, "consistent: links ", links as u64);
+    push_number(&mut text, " replies ", replies);
+    push_number(&mut text, " records ", records);
+    text.push_str("\n");
+    match world.say(text.as_str()) {
+        Ok(()) => Ok(()),
+        Err(failed) => Err(failed),
+    }
 }

@@ -18,7 +18,7 @@ fn status(outcome: Outcome) -> u8
 {
     match outcome {
         Outcome::Done => 0,
-        Outcome::Usage => 1,
+        Outcome::Usage | Outcome::NotYet => 1,
         Outcome::ReadFault => 2,
         Outcome::WriteFault | Outcome::PrintFault => 3,
         Outcome::LogFault => 4,
@@ -26,6 +26,7 @@ fn status(outcome: Outcome) -> u8
         Outcome::Refused(_) => 6,
         Outcome::BadLog(_) => 7,
         Outcome::CannotOpen => 8,
+        Outcome::BadReply(_, _) | Outcome::BadEntry(_) => 9,
     }
 }
 
@@ -53,14 +54,40 @@ fn bad_log_text(at: u64) -> ArrayString<MAX_TEXT_BYTES>
     text
 }
 
-// The text of an outcome but that of a bad log, which has a number.
+// The text of a transcript that is inconsistent at this reply.
+fn bad_reply_text(link: u32, index: u64) -> ArrayString<MAX_TEXT_BYTES>
+    ensures { result.bytes ≡ text_of (Outcome.BadReply link index) }
+{
+    let mut text = ArrayString::new();
+    text.push_str("demi: link ");
+    text.push_str(Buffer::new().format(link));
+    text.push_str(" reply ");
+    text.push_str(Buffer::new().format(index));
+    text.push_str(" is inconsistent");
+    text
+}
+
+// The text of a transcript that is inconsistent at this record.
+fn bad_entry_text(version: u64) -> ArrayString<MAX_TEXT_BYTES>
+    ensures { result.bytes ≡ text_of (Outcome.BadEntry version) }
+{
+    let mut text = ArrayString::new();
+    text.push_str("demi: record ");
+    text.push_str(Buffer::new().format(version));
+    text.push_str(" is inconsistent");
+    text
+}
+
+// The text of an outcome but those with a number.
 fn text(outcome: Outcome) -> &'static str
-    requires { (at : ℕ) → outcome ≢ Outcome.BadLog at }
+    requires log { (at : ℕ) → outcome ≢ Outcome.BadLog at }
+    requires reply { (link index : ℕ) → outcome ≢ Outcome.BadReply link index }
+    requires entry { (version : ℕ) → outcome ≢ Outcome.BadEntry version }
     ensures text { result.now ≡ text_of outcome }
     ensures short { length result.now ≤ 128 }
 {
     match outcome {
-        Outcome::Done | Outcome::BadLog(_) => "",
+        Outcome::Done | Outcome::BadLog(_) | Outcome::BadReply(_, _) | Outcome::BadEntry(_) => "",
         Outcome::Usage => "usage: demi pipe, serve, bench, check or log",
         Outcome::ReadFault => "demi: read fault on link 0",
         Outcome::WriteFault => "demi: write fault on link 0",
@@ -69,6 +96,7 @@ fn text(outcome: Outcome) -> &'static str
         Outcome::NoMemory => "demi: out of memory",
         Outcome::Refused(code) => refused_text(code),
         Outcome::CannotOpen => "demi: cannot open",
+        Outcome::NotYet => "demi: serve and bench are not there yet",
     }
 }
 
@@ -83,6 +111,8 @@ pub fn report<W: World>(world: &mut W, outcome: Outcome) -> u8
     match outcome {
         Outcome::Done => {}
         Outcome::BadLog(at) => world.warn(bad_log_text(at).as_str()),
+        Outcome::BadReply(link, index) => world.warn(bad_reply_text(link, index).as_str()),
+        Outcome::BadEntry(version) => world.warn(bad_entry_text(version).as_str()),
         _ => world.warn(text(outcome)),
     }
     status(outcome)

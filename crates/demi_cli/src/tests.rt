@@ -1,5 +1,6 @@
 // Whole runs over a world in memory.
 mod answers;
+mod checks;
 mod existing_logs;
 mod faults;
 mod in_memory;

@@ -58,7 +58,7 @@ returns-clause-ran g c =
       given = c.in-Ok.ensures.given;
       keeps = c.keep_log-2.ensures.kept;
     } in
-    piped_ran c.over_link-log.result.ends (λ e. record { service = e.service; rx = e.rx.items; tx = e.tx.items }) c.over_link-log.result.outcome (state c.args.world.now) (state c.log.new.self) (state c.over_link-log.new.world) (state c.keep_log-2.new.self) c.args.name.now log mid kept _ _ _ _ t c.over_link-log.ensures.ran
+    piped_ran c.args.limit c.over_link-log.result.ends (λ e. record { service = e.service; rx = e.rx.items; tx = e.tx.items }) c.over_link-log.result.outcome (state c.args.world.now) (state c.log.new.self) (state c.over_link-log.new.world) (state c.keep_log-2.new.self) c.args.name.now log mid kept _ _ _ _ t c.over_link-log.ensures.ran
 
 pub returns-clause-reads : goal.returns-clause-reads
 returns-clause-reads g c =
@@ -80,7 +80,7 @@ returns-clause-reads g c =
       given = c.in-Ok.ensures.given;
       keeps = c.keep_log-2.ensures.kept;
     } in
-    piped_reads g.W.In.Source.reads g.W.In.Source.taken g.W.In.Source.left g.W.In.Source.faults c.over_link-log.result.ends (λ e. record { service = e.service; rx = e.rx.items; tx = e.tx.items }) c.over_link-log.result.outcome
+    piped_reads g.W.In.Source.reads g.W.In.Source.taken g.W.In.Source.left g.W.In.Source.faults c.args.limit c.over_link-log.result.ends (λ e. record { service = e.service; rx = e.rx.items; tx = e.tx.items }) c.over_link-log.result.outcome
     (g.W.World.next_source c.log.new.self) (g.W.World.next_source c.args.world.now) (g.W.World.kept_source c.over_link-log.new.world) (g.W.World.kept_source c.keep_log-2.new.self)
     (state c.args.world.now) (state c.log.new.self) (state c.over_link-log.new.world) (state c.keep_log-2.new.self) c.args.name.now log mid kept _ _ _ _ t
     c.log.ensures.next_sources c.keep_log-2.ensures.kept_sources c.over_link-log.ensures.ran c.over_link-log.ensures.reads
