@@ -8,7 +8,7 @@ use Rattle.demi_pdpix.specs.Seen.{AreNewPairs, DemiId, IsNewPair, Pair}
 use Rattle.demi_server.specs.Building.{rx_of, tx_of}
 use Rattle.demi_server.specs.Gathering.{AllDevices, AreBack, AreBackAt, AreFor, Have, IsBackAt}
 use Rattle.demi_server.specs.Runs.{MemRan, RxRan, StoreRan, TxRan}
-use Rattle.demi_server.specs.Working.{BothDone, EachBecame}
+use Rattle.demi_work.specs.Working.{BothDone, EachBecame}
 use Rattle.demi_server.specs.declared.parts.Parts.{Parts}
 
 -- the seat and the pass of one device

@@ -5,7 +5,7 @@ use Rattle.demi_pdpix.specs.Seen.{IsOf}
 use Rattle.demi_worker.specs.declared.ended.Ended.{Ended}
 use Rattle.demi_context.specs.ContextPorts.{Caller, Whole}
 use Rattle.demi_server.specs.Hands.{Done, HandValue, HasFinished, HasServed, MayFinish}
-use Rattle.demi_server.specs.Working.{IsCrewDone, Then}
+use Rattle.demi_work.specs.Working.{IsCrewDone, Then}
 use Rattle.demi_server.proofs.Callers.{owes_none}
 
 too_many : {A : Type 0} (y c : A) (ys cs : List A) → cs ≡ (y ∷ ys) ++ c ∷ [] → length cs ≡ 1 → ⊥

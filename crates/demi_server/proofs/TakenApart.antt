@@ -34,7 +34,7 @@ use Rattle.demi_closed.specs.LinkClosed.{PortsClosed, WasServed}
 use Rattle.demi_closed.specs.OnlyLink.{ServesOne, WentOn, store_stop}
 use Rattle.demi_server.specs.Runs.{RxRan, TxRan}
 use Rattle.demi_server.specs.Session.{RxEndValue, TxEndValue}
-use Rattle.demi_server.specs.Working.{BothDone}
+use Rattle.demi_work.specs.Working.{BothDone}
 use Rattle.demi_server.specs.declared.parts.Parts.{Parts}
 use Rattle.demi_server.proofs.Callers.{only_ended, owes_none, same_rx, same_tx, stopped_store}
 use Rattle.demi_server.proofs.Singles.{added_by, at_first, first_of, mapped, only, only_end, only_new, only_pass}

@@ -14,7 +14,7 @@ use Rattle.demi_streamq.specs.declared.tx_op.TxOp.{TxOp}
 use Rattle.demi_pdpix.specs.Seen.{Pair, RxPair, TxPair}
 use Rattle.demi_streamq.specs.Receiving.{is_stop as stops_reading}
 use Rattle.demi_streamq.specs.Sending.{is_stop as stops_writing}
-use Rattle.demi_server.specs.declared.both.Both.{Both}
+use Rattle.demi_work.specs.declared.both.Both.{Both}
 use Rattle.demi_server.specs.declared.parts.LinkParts.{LinkParts}
 use Rattle.demi_server.specs.declared.home.Home.{Home}
 

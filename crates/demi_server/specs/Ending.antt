@@ -22,7 +22,7 @@ use Rattle.demi_server.specs.Outcomes.{told_of}
 use Rattle.demi_closed.specs.Reading.{OnlyDueReads}
 use Rattle.demi_server.specs.Runs.{MemRan, RxRan, StoreRan, TxRan}
 use Rattle.demi_server.specs.Session.{LinkServed, OnlyOne, RxEndValue, TxEndValue}
-use Rattle.demi_server.specs.Working.{BothDone, EachBecame, Then}
+use Rattle.demi_work.specs.Working.{BothDone, EachBecame, Then}
 use Rattle.demi_server.specs.declared.outcome.Outcome.{Outcome}
 use Rattle.demi_server.specs.declared.parts.Parts.{Parts}
 

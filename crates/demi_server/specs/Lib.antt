@@ -9,4 +9,3 @@ pub mod Runs
 pub mod Session
 pub mod Staging
 pub mod Stations
-pub mod Working

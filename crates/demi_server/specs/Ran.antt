@@ -5,7 +5,7 @@ use Rattle.demi_context.specs.ContextPorts.{Caller, Whole}
 use Rattle.demi_server.specs.Gathering.{AllDevices, AreFor, AreUnused, Have}
 use Rattle.demi_server.specs.Hands.{Done, HandValue, HasFinished, HasServed}
 use Rattle.demi_server.specs.Runs.{MemRan, RxRan, StoreRan, TxRan}
-use Rattle.demi_server.specs.Working.{BothDone, EachBecame, Then}
+use Rattle.demi_work.specs.Working.{BothDone, EachBecame, Then}
 use Rattle.demi_server.specs.declared.parts.Parts.{Parts}
 
 -- From these parts the devices of the whole were made, ran beside one worker of the number 0, which served its link and at the last

@@ -7,13 +7,13 @@ ghost use Rattle.demi_server.specs.Staging.{StopsShared};
 mod only_link;
 mod stage;
 
-use crate::job::{Crew, Job};
 use arrayvec::ArrayVec;
 use demi_context::{Context, stop_shared};
 use demi_core::NoMemory;
 use demi_pdpix::{Caller, Demi};
 use demi_sched::Scheduler;
 use demi_store::StoreLaw;
+use demi_work::{Crew, Job};
 use demi_worker::{Ended, Worker};
 use only_link::serve_only_link;
 use stage::Stage;

@@ -4,13 +4,13 @@ ghost use Rattle.demi_streamq.specs.Receiving.{is_stop as stops_reading};
 ghost use Rattle.demi_streamq.specs.Sending.{is_stop as stops_writing};
 ghost use Rattle.demi_server.specs.Building.{IsLinkSpent, IsSeated, IsSpent, link_parts_of, new_rx, new_tx};
 
-use crate::both::Both;
 use crate::parts::{LinkParts, RxSeat, TOKENS, TxSeat};
 use crate::station::Station;
 use demi_core::{Sink, Source};
 use demi_heap::Heap;
 use demi_port::Port;
 use demi_streamq::{RxEngine, RxLaw, TxEngine, TxLaw};
+use demi_work::Both;
 use std::alloc::Global;
 
 pub(crate) type Receiving<'h, I> = Station<'h, RxEngine<'h, I>>;

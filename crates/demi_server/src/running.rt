@@ -2,12 +2,11 @@
 ghost use Rattle.std.specs.Prelude.{◌≡◌, ◌<◌, All, length};
 ghost use Rattle.demi_server.specs.Gathering.{AreSpent};
 ghost use Rattle.demi_server.specs.Runs.{MemRan, RxRan, StoreRan, TxRan};
-ghost use Rattle.demi_server.specs.Working.{BothDone, EachBecame, IsCrewDone};
+ghost use Rattle.demi_work.specs.Working.{BothDone, EachBecame, IsCrewDone};
 
-use crate::crew::work_all;
 use crate::devices::Devices;
-use crate::job::Crew;
 use demi_core::{Disk, Sink, Source};
+use demi_work::{Crew, work_all};
 use std::sync::Wait;
 use std::thread::Threads;
 

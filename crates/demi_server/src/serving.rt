@@ -1,10 +1,10 @@
 //! The work of each kind of device: to serve until it was stopped.
-use crate::job::Job;
 use crate::station::Station;
 use demi_core::{Disk, Sink, Source};
 use demi_memq::MemEngine;
 use demi_store::StoreEngine;
 use demi_streamq::{RxEngine, TxEngine};
+use demi_work::Job;
 use std::sync::Wait;
 
 impl<'p, 'h> Job for Station<'p, MemEngine<'h>> {

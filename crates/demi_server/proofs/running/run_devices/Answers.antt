@@ -1,7 +1,7 @@
 use Rattle.std.proofs.Common.{◌∙◌, All, length, ap, sym, subst, arith, inl}
 use Rattle.demi_server.specs.Building.{HasRoom, IsLinkSpent}
 use Rattle.demi_server.specs.Runs.{RxRan, TxRan}
-use Rattle.demi_server.specs.Working.{BothDone, EachBecame}
+use Rattle.demi_work.specs.Working.{BothDone, EachBecame}
 use Rattle.demi_server.proofs.Rewriting.{rewritten}
 use Rattle.demi_server.proofs.running.run_devices.Goals as goal
 

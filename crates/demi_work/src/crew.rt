@@ -2,7 +2,7 @@
 //! closure sees what it borrows.
 ghost use Rattle.std.specs.Prelude.{◌<◌, All, length};
 ghost use Rattle.std.specs.Thread.{IsSend, IsSync};
-ghost use Rattle.demi_server.specs.Working.{BothDone, BothReady, EachBecame, IsCrewDone};
+ghost use Rattle.demi_work.specs.Working.{BothDone, BothReady, EachBecame, IsCrewDone};
 
 use crate::both::Both;
 use crate::job::{Crew, Job};

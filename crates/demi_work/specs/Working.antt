@@ -1,6 +1,6 @@
 -- What the work of many comes to.
 use Rattle.std.specs.Prelude.{◌≡◌, ℕ, ◌<◌, List, length, slice_index_or}
-use Rattle.demi_server.specs.declared.both.Both.{Both}
+use Rattle.demi_work.specs.declared.both.Both.{Both}
 
 -- There are as many as before, and what stood at each place became, in this way, what stands there.
 pub record EachBecame {A : Type 0} (P : A → A → Type 0) (old new : List A) : Type 0 where

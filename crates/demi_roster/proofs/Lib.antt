@@ -1,0 +1,3 @@
+pub mod HandSend
+mod HandStages
+pub mod HiringSteps

@@ -1,0 +1,4 @@
+pub mod Hands
+pub mod Hiring
+pub mod Places
+pub mod Staging
