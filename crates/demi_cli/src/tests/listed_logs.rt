@@ -35,7 +35,7 @@ const OTHER_LINES: &[u8] =
 
 #[test]
 fn a_log_is_listed(rt: HostRuntime) -> Result<(), Fail> {
-    let rows: [(&str, &[&str], &[u8], &[u64], usize, u8, &[u8], &[u8]); 17] = [
+    let rows: [(&str, &[&str], &[u8], &[u64], usize, u8, &[u8], &[u8]); 16] = [
         (
             "two records",
             &["log", "L"],
@@ -180,16 +180,6 @@ fn a_log_is_listed(rt: HostRuntime) -> Result<(), Fail> {
         (
             "a longer word",
             &["logs", "L"],
-            THEIR_LOG,
-            &[],
-            100,
-            1,
-            b"",
-            USAGE,
-        ),
-        (
-            "a command to come",
-            &["check", "L"],
             THEIR_LOG,
             &[],
             100,
