@@ -11,8 +11,8 @@ use Rattle.demi_cli.specs.Lines.{verdict_line}
 use Rattle.demi_cli.specs.Outcome.{status_of, reported}
 use Rattle.demi_cli.specs.Given.{LogOf, NoLink, NoLog}
 use Rattle.demi_cli.specs.Run.{LogFaulted, Warned}
-use Rattle.demi_cli.specs.Listing.{KeepsOne, SameButTold, GivesNone}
-use Rattle.demi_cli.specs.Checking.{Checked, Checking, Consistent, Judged, Refuted}
+use Rattle.demi_cli.specs.Listing.{KeepsOne, SameButTold, KeepsLog, GivesNone}
+use Rattle.demi_cli.specs.Checking.{BadTranscript, Checked, Checking, Consistent, Inconsistent, Judged, Refuted, SaysVerdict, SaysVerdictPart}
 use Rattle.demi_cli.proofs.Lists.{log_of, told}
 
 -- all that is said of a status

@@ -1,5 +1,6 @@
 -- What words ask for, by the command that they are.
 use Rattle.std.proofs.Common.{◌≡◌, List, ℕ, Option, Some, None, Bool, true, false, refl, ap, sym, ◌∙◌, subst}
+use Rattle.std.specs.Prelude.{Result, Ok, Err, IfOk}
 use Rattle.demi_words.specs.Commands as plain
 use Rattle.demi_words.specs.Commands.{command_of, IsInRange}
 use Rattle.demi_words.specs.Plain.{plain_of}

@@ -1,5 +1,5 @@
 -- What the command `check` leaves: first what an audit says, then what holds whatever the status, then status by status.
-use Rattle.std.specs.Prelude.{◌≡◌, ◌≢◌, ◌⊎◌, ℕ, List, ◌++◌, Some, None, Err, IfSome}
+use Rattle.std.specs.Prelude.{◌≡◌, ◌≢◌, ◌⊎◌, ℕ, List, ◌++◌, Option, Some, None, Err, IfSome}
 use Rattle.std.specs.Io.KnownBytes.{append_known}
 use Rattle.demi_core.specs.Outside.{Rose}
 use Rattle.demi_core.specs.World.{WorldState, Log, after_say, LogRefused}
@@ -8,10 +8,11 @@ use Rattle.demi_audit.specs.Transcript.{transcript}
 use Rattle.demi_audit.specs.Verdict.{ReplyAt, EntryAt}
 use Rattle.demi_cli.specs.declared.outcome.Outcome.{Outcome}
 use Rattle.demi_cli.specs.declared.outcome.Outcome.TheVariants as outcome
-use Rattle.demi_cli.specs.Given.{LogOf}
+use Rattle.demi_cli.specs.Given.{LogOf, NoLog}
 use Rattle.demi_cli.specs.Lines.{verdict_line}
-use Rattle.demi_cli.specs.Listing.{KeepsLog, KeepsOne}
+use Rattle.demi_cli.specs.Listing.{GivesNone, KeepsLog, KeepsOne}
 use Rattle.demi_cli.specs.Outcome.{reported}
+use Rattle.demi_cli.specs.Run.{LogFaulted}
 use Rattle.demi_cli.specs.Saying.{SaidFront}
 
 -- a text is a transcript in which no fault is found, with these counts

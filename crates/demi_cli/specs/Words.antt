@@ -1,5 +1,5 @@
 -- What the words of the command line ask for.
-use Rattle.std.specs.Prelude.{◌≡◌, ℕ, Bool, true, false, ◌||◌, if◌then◌else◌, List, [], Option, Some, None}
+use Rattle.std.specs.Prelude.{◌≡◌, ◌≤◌, ℕ, Bool, true, false, ◌||◌, if◌then◌else◌, List, [], Option, Some, None}
 use Rattle.demi_words.specs.Commands as plain
 use Rattle.demi_words.specs.Commands.{command_of, default_limit, IsLimit, IsInRange}
 use Rattle.demi_words.specs.Plain.{plain_of}

@@ -1,4 +1,4 @@
-use Rattle.std.proofs.Common.{◌≡◌, ℕ, length, take, drop, subst}
+use Rattle.std.proofs.Common.{◌≡◌, List, ℕ, length, take, drop, subst}
 use Rattle.std.specs.Prelude.{IfSome}
 use Rattle.demi_cli.proofs.Pieces.{piece_read}
 use Rattle.demi_cli.proofs.checking.read_more.Goals as goal

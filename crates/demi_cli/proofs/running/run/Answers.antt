@@ -1,4 +1,4 @@
-use Rattle.std.proofs.Common.{◌≢◌, ◌∙◌, ap, inl, map, refl, sym, Bool, true, false}
+use Rattle.std.proofs.Common.{◌≡◌, ◌≢◌, ◌∙◌, ap, inl, map, refl, sym, subst, Bool, true, false, List, ℕ}
 use Rattle.std.specs.Prelude.{string_bytes, if◌then◌else◌, Err}
 use Rattle.demi_core.specs.World.{WorldState}
 use Rattle.demi_words.specs.Commands.{command_of}
